@@ -1,0 +1,7 @@
+pub mod Wired
+pub mod Unjoined
+pub mod Functions
+pub mod Orders
+pub mod Falls
+pub mod Steps
+pub mod Runs

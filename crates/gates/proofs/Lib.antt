@@ -1,0 +1,4 @@
+pub mod Paired
+pub mod Extended
+pub mod Folds
+pub mod Exact

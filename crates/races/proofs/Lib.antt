@@ -1,0 +1,10 @@
+pub mod network
+pub mod Places
+pub mod Named
+pub mod Agreed
+pub mod States
+pub mod Walks
+pub mod Exact
+pub mod Fires
+pub mod Adopts
+pub mod SmallCircuits

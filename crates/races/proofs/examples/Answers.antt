@@ -1,0 +1,5 @@
+use Rattle.races.proofs.SmallCircuits.{examples}
+use Rattle.races.proofs.examples.Needs as need
+
+pub returns : need.returns
+returns c = examples

@@ -1,0 +1,5 @@
+pub mod Races
+pub mod Exact
+pub mod Fires
+pub mod Adopts
+pub mod Examples

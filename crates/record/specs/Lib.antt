@@ -1,0 +1,5 @@
+pub mod Boards
+pub mod Answers
+pub mod Calls
+pub mod Runs
+pub mod Views
