@@ -6,7 +6,7 @@ pub mod reserved;
 pub mod tables;
 
 /// A gate: its kind in the library, and its wires, one for each pin, from `first` on.
-#[derive(Clone, Copy, PartialEq, Eq, Debug)]
+#[derive(Clone, Copy)]
 pub struct Gate {
     pub kind: usize,
     pub first: usize,
@@ -14,7 +14,7 @@ pub struct Gate {
 }
 
 /// What a pin may be joined to.
-#[derive(Clone, Copy, PartialEq, Eq, Debug)]
+#[derive(Clone, Copy)]
 pub enum Source {
     Input(usize),
     Gate(usize),

@@ -1,12 +1,11 @@
 //! The two passes of marks.
 ghost use mathlib.Core.Path.{_≡_};
 ghost use mathlib.Core.List.{map};
-ghost use Prim.Native.Nat.{ℕ, _<_};
 ghost use lib.ListN.{length};
 ghost use Rattle.std.specs.Orderings.{Decides};
 ghost use Rattle.std.specs.Options.{Cases as BySome};
 ghost use Rattle.gates.specs.Marks.{settled};
-ghost use Rattle.circuit.specs.Circuits.{Has, size, signal-at};
+ghost use Rattle.circuit.specs.Circuits.{size};
 ghost use Rattle.circuit.specs.Passes.{next, stepped, Ends, Shrinks, Run, Run-exists, Run-unique, Steps-few};
 ghost use Rattle.circuit.specs.Views.{circuit-of};
 use crate::Signal;
@@ -18,7 +17,7 @@ use gates::Mark;
 use gates::MarkPartialEq;
 
 /// The first pass, in which marks rise, or the second, in which they settle again.
-#[derive(Clone, Copy, PartialEq, Eq, Debug)]
+#[derive(Clone, Copy)]
 pub enum Pass {
     First,
     Second,
@@ -118,7 +117,7 @@ fn settle<L: GateLibrary>(
     }
 }
 
-// All signals from the marks before.
+// All signals from the marks before, section by section.
 fn step<L: GateLibrary>(
     tables: &Tables,
     library: &L,
@@ -130,27 +129,22 @@ fn step<L: GateLibrary>(
     requires after { ⌜ length (now after) ≡ size (circuit-of (now tables)) ⌝ }
     ensures { λ _. ⌜ now (after .exit) ≡ stepped pass (L·GateLibrary .kinds (now (library .entry))) (circuit-of (now (tables .entry))) (now (before .entry)) ⌝ }
 {
-    for place in 0..after.len() {
-        let signal = signal_at(tables, place);
-        after[place] = pass.next(before[place], driven(tables, library, before, signal));
+    let gates = tables.input_count();
+    let wires = gates + tables.gate_count();
+    for i in 0..gates {
+        after[i] = pass.next(before[i], driven(tables, library, before, Signal::Input(i)));
     }
-}
-
-// The signal that stands at a place.
-fn signal_at(tables: &Tables, place: usize) -> Signal
-    requires { ⌜ place < size (circuit-of (now tables)) ⌝ }
-    ensures value { λ r. ⌜ r ≡ signal-at (circuit-of (now (tables .entry))) place ⌝ }
-    ensures there { λ r. ⌜ Has (circuit-of (now (tables .entry))) r ⌝ }
-{
-    let inputs = tables.input_count();
-    if place < inputs {
-        return Signal::Input(place);
+    for g in gates..wires {
+        after[g] = pass.next(
+            before[g],
+            driven(tables, library, before, Signal::Gate(g - gates)),
+        );
     }
-    let gates = tables.gate_count();
-    if place - inputs < gates {
-        Signal::Gate(place - inputs)
-    } else {
-        Signal::Wire(place - inputs - gates)
+    for w in wires..after.len() {
+        after[w] = pass.next(
+            before[w],
+            driven(tables, library, before, Signal::Wire(w - wires)),
+        );
     }
 }
 
