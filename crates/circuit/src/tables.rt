@@ -8,6 +8,7 @@ use super::Gate;
 use super::Source;
 
 pub mod changes;
+pub mod clearing;
 pub mod excitations;
 pub mod reads;
 

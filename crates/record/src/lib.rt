@@ -18,8 +18,16 @@ pub enum Refusal {
     NotABit,
     /// 5: this gate's pin is not joined, the first by gate and then by pin.
     Unjoined(usize, usize),
+    /// 6: the list of signals is empty.
+    EmptyList,
+    /// 7: a signal stands in the list before.
+    Repeated,
+    /// 8: a signal to be fired is stable.
+    Stable,
     /// 9: no marks stand.
     NoMarks,
+    /// 10: a second mark is unknown.
+    StillOpen,
     /// 11: the buffer is shorter than the sheet.
     ShortBuffer,
 }
@@ -35,7 +43,11 @@ impl Refusal {
             Refusal::Absent => 3,
             Refusal::NotABit => 4,
             Refusal::Unjoined(_, _) => 5,
+            Refusal::EmptyList => 6,
+            Refusal::Repeated => 7,
+            Refusal::Stable => 8,
             Refusal::NoMarks => 9,
+            Refusal::StillOpen => 10,
             Refusal::ShortBuffer => 11,
         }
     }

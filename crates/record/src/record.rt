@@ -9,8 +9,10 @@ ghost use Rattle.circuit.specs.Views.{circuit-of};
 use circuit::tables::Tables;
 use gates::Mark;
 
+pub mod clearing;
 pub mod entering;
 pub mod marking;
+pub mod moving;
 
 /// A circuit record over a gate library.
 #[derive(Drop)]

@@ -1,12 +1,14 @@
 //! Running both passes and reading the marks.
 ghost use mathlib.Core.Path.{_≡_};
-ghost use mathlib.Core.Bool.{Bool};
+ghost use mathlib.Core.Bool.{Bool, true};
 ghost use Prim.Native.Nat.{ℕ, _≤_};
 ghost use lib.ListN.{length};
 ghost use Rattle.std.specs.Of.Vec.{vec-items, vec-len, vec-cap};
 ghost use Rattle.gates.specs.Told.{told-by, left-by};
 ghost use Rattle.sheet.specs.Writing.{overwritten};
+ghost use Rattle.circuit.specs.Changes.{has-signal};
 ghost use Rattle.circuit.specs.Passes.{open-count};
+ghost use Rattle.circuit.specs.Views.{circuit-of};
 ghost use Rattle.record.specs.Answers.{told};
 ghost use Rattle.record.specs.Calls.{unstable-stop, is-unstable, run-stop, marks-stop, mark-pair, sheet-stop, sheet-of};
 ghost use Rattle.record.specs.Runs.{Run-or-stop};
@@ -31,8 +33,16 @@ impl<L: GateLibrary> Record<L> {
         if let Some((gate, pin)) = self.tables.first_unjoined() {
             return Err(Refusal::Unjoined(gate, pin));
         }
+        Ok(self.differs(signal))
+    }
+
+    // Whether the value of a signal that is there differs from what it is driven to.
+    pub(crate) fn differs(&self, signal: Signal) -> bool
+        requires { ⌜ has-signal (circuit-of (now self .tables)) signal ≡ true ⌝ }
+        ensures { λ r. ⌜ r ≡ is-unstable (board-of (L·GateLibrary .kinds) (now (self .entry))) signal ⌝ }
+    {
         match self.tables.unstable(&self.library, &self.values, signal) {
-            Some(unstable) => Ok(unstable),
+            Some(unstable) => unstable,
             None => unreachable(),
         }
     }
@@ -103,7 +113,7 @@ fn blank(marks: &mut Vec<Mark>, size: usize)
 }
 
 // How many marks are unknown.
-fn count_open(marks: &[Mark]) -> usize
+pub(crate) fn count_open(marks: &[Mark]) -> usize
     ensures { λ r. ⌜ r ≡ open-count (now (marks .entry)) ⌝ }
 {
     let mut open = 0;

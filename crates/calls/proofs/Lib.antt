@@ -1,0 +1,5 @@
+pub mod Marking
+pub mod Boards
+pub mod Rooms
+pub mod Sheets
+pub mod Promised

@@ -1,0 +1,3 @@
+pub mod Tellings
+pub mod Effects
+pub mod Promises
