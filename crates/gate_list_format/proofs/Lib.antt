@@ -1,0 +1,9 @@
+pub mod Slotted
+pub mod Judges
+pub mod Forms
+pub mod Exact
+pub mod Stops
+pub mod Sizes
+pub mod Admitted
+pub mod Laid
+pub mod Passed

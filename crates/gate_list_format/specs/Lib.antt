@@ -1,0 +1,5 @@
+pub mod Slots
+pub mod Lists
+pub mod Reading
+pub mod Examples
+pub mod Places

@@ -1,0 +1,3 @@
+pub mod ListBoards
+pub mod Entering
+pub mod Replay
