@@ -51,12 +51,17 @@ fn a_refused_list_leaves_an_empty_record(rt: LibcRuntime) -> Result<(), Fail> {
 #[test]
 fn short_tables_stay(rt: LibcRuntime) -> Result<(), Fail> {
     let mut board = Record::open(rt.alloc(), Complement { below: PlainGates })?;
-    let mut inputs = [InputEntry::BLANK; 32];
-    let mut gates = [GateEntry::BLANK; 96];
-    check(read_list(&mut board, LATCH, &mut inputs[..], &mut gates[..]).is_ok())?;
-    check(read_list(&mut board, LATCH, &mut inputs[..], &mut gates[..95]).is_err())?;
-    check(matches!(board.run(), Ok((0, 0, 0))))?;
-    check(inputs[0].length == 3 && gates[0].length == 1)?;
-    check(read_list(&mut board, LATCH, &mut inputs[..31], &mut gates[..]).is_err())?;
-    check(inputs[0].length == 3 && gates[0].length == 1)
+    board.add_input()?;
+    let mut inputs = [InputEntry {
+        place: 9,
+        length: 3,
+    }; 32];
+    let mut gates = [GateEntry {
+        place: 35,
+        length: 1,
+        kind: 19,
+    }; 95];
+    check(read_list(&mut board, LATCH, &mut inputs[..], &mut gates[..]).is_err())?;
+    check(inputs[31].place == 9 && gates[94].kind == 19)?;
+    check(matches!(board.run(), Ok((0, 0, 0))))
 }
