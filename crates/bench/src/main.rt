@@ -1,4 +1,6 @@
 //! The bench: a gate list from standard input, its sheet or its refusal to standard output.
+#![tactic(auto)]
+
 use bench_answer::bench;
 use std::io;
 use std::io::{Read, Write};

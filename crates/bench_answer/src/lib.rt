@@ -1,4 +1,6 @@
 //! The bench's answer to a gate list: its sheet, or why it is refused, as bytes.
+#![tactic(auto)]
+
 ghost use Rattle.std.specs.Prelude.{◌≡◌, [], ◌∷◌, ◌++◌, IfOk, None, string_bytes, codes, decimal};
 ghost use Rattle.circuit.specs.Wiring.{first_unjoined};
 ghost use Rattle.gate_list.specs.Refusals.{refusal_number, refusal_line};

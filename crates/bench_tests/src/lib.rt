@@ -1,4 +1,6 @@
 //! Examples of gate lists: the sheets of boards, each refusal, and which of two faults counts.
+#![tactic(auto)]
+
 use bench_answer::bench;
 use std::alloc::{AllocError, Global};
 

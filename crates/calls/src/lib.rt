@@ -1,4 +1,6 @@
 //! Calls as values, and a list of calls answered on one newly opened record, with the whole promise.
+#![tactic(auto)]
+
 ghost use Rattle.std.specs.Prelude.{◌≡◌, length, IfOk, OnOk};
 ghost use Rattle.gates.specs.Told.{told_by};
 ghost use Rattle.record.specs.Answers.{told};

@@ -1,4 +1,5 @@
 //! Circuits: signals, tables of gates and wires, excitations for bits and for marks, and the two passes.
+#![tactic(auto)]
 
 pub mod level;
 pub mod passes;

@@ -1,4 +1,6 @@
 //! Reads a script of calls, a line each, and prints each answer.
+#![tactic(auto)]
+
 use calls::{Answer, answer_all};
 use gates::{Complement, Mark};
 use plain_gates::PlainGates;

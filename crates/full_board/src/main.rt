@@ -1,4 +1,6 @@
 //! A full record, 32 inputs, 96 gates and 384 wires, whose longest chain is run as often as asked.
+#![tactic(auto)]
+
 use circuit::Signal;
 use gates::Complement;
 use plain_gates::PlainGates;

@@ -1,4 +1,6 @@
 //! Gate lists: a text is read into name tables, or refused with its first fault.
+#![tactic(auto)]
+
 ghost use Rattle.std.specs.Prelude.{◌≡◌, ℕ, ◌+◌, ◌<◌, ◌≤◌, ◌++◌, length};
 ghost use Rattle.gate_list_format.specs.Reading.{admitted};
 ghost use Rattle.gate_list_fields.specs.Faults.{number_of};

@@ -1,4 +1,6 @@
 //! The fields of a gate list, read from a borrowed text.
+#![tactic(auto)]
+
 ghost use Rattle.std.specs.Prelude.{◌≡◌, ℕ, ◌+◌, ◌<◌, length, Some as Present, None as Absent, decimal, MatchOption, ◌≢◌};
 ghost use Rattle.gate_list_format.specs.Slots.{byte, field, behind, past, verdict};
 ghost use Rattle.gate_list_format.specs.Lists.{word_text, letter as is_letter, name_byte as is_name_byte, name_bytes, is_name as is_name_field};

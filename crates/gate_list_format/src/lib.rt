@@ -1,4 +1,6 @@
 //! The format of gate lists: its definition in `specs/`, and the laws that tie its parts together.
+#![tactic(auto)]
+
 ghost use Rattle.gate_list_format.specs.Examples.{Examples};
 ghost use Rattle.gate_list_format.specs.Reading.{AcceptsExactly, RefusesFirst};
 

@@ -1,4 +1,6 @@
 //! The lines of a gate list, read from a borrowed text.
+#![tactic(auto)]
+
 ghost use Rattle.std.specs.Prelude.{◌≡◌, ◌<◌, ◌++◌, codes};
 ghost use Rattle.gate_list_format.specs.Lists.{pin_end as pins_end};
 ghost use Rattle.gate_list_fields.specs.Taken.{end_of};

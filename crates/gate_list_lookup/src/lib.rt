@@ -1,4 +1,6 @@
 //! Single lines of a gate list, looked up by their places in the text.
+#![tactic(auto)]
+
 ghost use Rattle.std.specs.Prelude.{◌≡◌, List, [], length, drop};
 ghost use Rattle.std.specs.List.{AllByRecursion as All};
 ghost use Rattle.gate_list_format.specs.Lists.{Pin, LawfulPin, write_pins};

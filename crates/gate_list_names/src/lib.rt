@@ -1,4 +1,6 @@
 //! The name table of a gate list: entries that give names by place and length in the text.
+#![tactic(auto)]
+
 ghost use Rattle.std.specs.Prelude.{◌≡◌, ℕ, ◌-◌, ◌++◌, length, take, replicate};
 ghost use Rattle.gate_list_names.specs.Names.{at, names_in, input_names_in, gate_names_in, First};
 ghost use Rattle.gate_list_names.specs.Sources.{FirstSource};

@@ -1,4 +1,6 @@
 //! Marks, and gate libraries: what a library means and what it answers.
+#![tactic(auto)]
+
 ghost use Rattle.std.specs.Prelude.{◌≡◌, Bool, List, length};
 ghost use Rattle.gates.specs.Marks.{settled, covers, lub, complemented, mark_code, mark_symbol, ExtensionExact};
 ghost use Rattle.gates.specs.Kinds.{Kind, Lawful, complementing, pins_of, value_of, extension_of};

@@ -1,4 +1,6 @@
 //! Gate lists onto a record: an accepted list replaces what the record held.
+#![tactic(auto)]
+
 ghost use Rattle.std.specs.Prelude.{◌≡◌, length};
 ghost use Rattle.gate_list_format.specs.Reading.{admitted};
 ghost use Rattle.gate_list.specs.Tables.{input_table, gate_table};

@@ -1,4 +1,6 @@
 //! Plain gates: AND, OR and XOR of 1 to 8 pins, and the majority of three.
+#![tactic(auto)]
+
 ghost use Rattle.plain_gates.specs.Plain.{plain, PlainNumbered};
 ghost use borrow.Author.Rules.{rules};
 

@@ -1,4 +1,6 @@
 //! Races of a circuit, and the theorem that the marks of both passes are exact: laws, each on a function's contract.
+#![tactic(auto)]
+
 ghost use Rattle.races.specs.Adopts.{AdoptLands};
 ghost use Rattle.races.specs.Examples.{Examples};
 ghost use Rattle.races.specs.Exact.{MarksExact, OutcomeSome};

@@ -1,4 +1,6 @@
 //! The circuit record: a circuit over any gate library, entered call by call, with its values and its marks.
+#![tactic(auto)]
+
 ghost use Rattle.std.specs.Prelude.{◌≡◌};
 ghost use Rattle.record.specs.Answers.{stop_of};
 

@@ -1,4 +1,6 @@
 //! Examples of the record's calls: limits, the order of checks, dropped marks, the sheet's bytes, other libraries.
+#![tactic(auto)]
+
 use circuit::Signal;
 use gates::GateLibrary;
 use record::Refusal;

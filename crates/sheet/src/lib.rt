@@ -1,4 +1,6 @@
 //! The sheet, written into the caller's buffer.
+#![tactic(auto)]
+
 ghost use Rattle.std.specs.Prelude.{◌≡◌, ℕ, ◌+◌, ◌*◌, ◌<◌, ◌≤◌, List, [], ◌∷◌, length, decimal, MatchOption};
 ghost use Rattle.gates.specs.Marks.{mark_symbol};
 ghost use Rattle.sheet.specs.Sheets.{lines, section, sheet, Sheeted, SheetLength, SheetInjective};

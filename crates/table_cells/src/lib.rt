@@ -1,4 +1,6 @@
 //! Table cells: a library of up to 32 gates, each given by its truth number.
+#![tactic(auto)]
+
 ghost use Rattle.std.specs.Prelude.{◌≤◌, vec_len, vec_capacity};
 ghost use Rattle.table_cells.specs.Cells.{HighBitsIgnored};
 ghost use Rattle.table_cells.specs.Held.{Narrow};

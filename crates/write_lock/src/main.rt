@@ -1,4 +1,6 @@
 //! A write-lock latch behind an activity LED, with power-fail gating, entered call by call.
+#![tactic(auto)]
+
 use circuit::Signal;
 use gates::Complement;
 use plain_gates::PlainGates;
