@@ -1,7 +1,6 @@
 -- Each step of a pass that changes something leaves less to change.
 use Rattle.std.proofs.Common.{◌≡◌, ℕ, zero, suc, ◌+◌, ◌<◌, ◌≤◌, Bool, true, false, cond, ◌⊎◌, List, [], ◌∷◌, map, length, get_or, Decides, sym, refl, ap, ◌∙◌, subst, inl, inr, ⊎_elim, arith}
 use Rattle.std.specs.List.{range_with_len, AllZip}
-use Rattle.std.specs.Cmp.Lexicographic.{Same, Apart, Matches}
 use Rattle.std.proofs.lemmas.List.FromFn.{get_or-map-range_with_len, length-map-range_with_len}
 use Rattle.std.proofs.lemmas.Bool.{cases_lt, false≢true}
 use Rattle.gates.specs.declared.Mark.{Mark}
@@ -26,25 +25,6 @@ weight Second Unknown = 1
 abbrev pub total : (Mark → ℕ) → List Mark → ℕ
 total w [] = 0
 total w (m ∷ ms) = w m + total w ms
-
--- what a derived `==` of slices of marks answers
-abbrev Told : Mark → Mark → Bool → Type 0
-Told x y r = cond r (x ≡ y) (x ≡ y → ⊥)
-
-same_is : (xs ys : List Mark) → Same Told xs ys → xs ≡ ys
-same_is [] [] h = refl
-same_is [] (y ∷ ys) h = absurd h
-same_is (x ∷ xs) [] h = absurd h
-same_is (x ∷ xs) (y ∷ ys) h = ap (λ z. z ∷ xs) h.0 ∙ ap (λ zs. y ∷ zs) (same_is xs ys h.1)
-
-apart_is : (xs ys : List Mark) → Apart Told xs ys → xs ≡ ys → ⊥
-apart_is [] ys h e = h
-apart_is (x ∷ xs) [] h e = h
-apart_is (x ∷ xs) (y ∷ ys) h e = let p : x ≡ y = cc in let q : xs ≡ ys = cc in ⊎_elim (λ n. n p) (λ r. apart_is xs ys r q) h
-
-pub told : (xs ys : List Mark) (r : Bool) → Matches Told xs ys r → Decides r (xs ≡ ys)
-told xs ys true h = ((λ _. same_is xs ys h.1), (λ _. refl))
-told xs ys false h = ((λ e. absurd (false≢true e)), (λ e. absurd (⊎_elim (λ n. n (ap length e)) (λ a. apart_is xs ys a e) h)))
 
 pub total_le : (p : Pass) (ms : List Mark) → total (weight p) ms ≤ length ms
 total_le p [] = omega arith

@@ -1,7 +1,7 @@
 -- A refusal is the first fault.
 use Rattle.std.proofs.Common.{◌≡◌, ℕ, ◌+◌, true, eqb, ◌⊎◌, ◌↔◌, List, [], ◌∷◌, ◌++◌, Some, None, Option, sym, refl, ap, ◌∙◌, inl, inr, ⊎_elim, arith}
 use Rattle.std.proofs.lemmas.List.{append_assoc, append-nil}
-use Rattle.std.proofs.lemmas.Bool.{and_parts, cond-false, or_parts, not_true}
+use Rattle.std.proofs.lemmas.Bool.{and_parts, cond-false, or_parts, not-true}
 use Rattle.gate_list_format.specs.Slots.{End, space, newline, byte, solid, solids, field, behind, put, Judged, fits, fault, Outcome, refused, Form, ends, slot, verdict, past, line_after, step, read, Passes, Faulty, newlines, Stopped, at, last}
 use Rattle.gate_list_format.specs.Reading.{list_form, reading}
 use Rattle.gate_list_format.proofs.Slotted.{field_put, behind_put, past_end, past_some, field_behind, solids_field}
@@ -23,7 +23,7 @@ newlines_put [] space rest n s = refl
 newlines_put [] newline rest n s = omega arith
 newlines_put (b ∷ f) e rest n s =
     let r = and_parts (solid b) (solids f) s in
-    let no_end = (or_parts (eqb b 32) (eqb b 10) (not_true _ r.0)).1 in
+    let no_end = (or_parts (eqb b 32) (eqb b 10) (not-true _ r.0)).1 in
     ap (λ k. k + n) (cond-false (eqb b 10) _ _ no_end) ∙ newlines_put f e rest n r.1
 
 passes_none : {A : Type 0} (F : Form A) → Passes F [] F

@@ -14,7 +14,7 @@ loop-pass-smaller g c =
     let ks = g.L.GateLibrary.kinds c.args.library.now in
     let circuit = circuit_of c.args.tables.now in
     let marks = c.loop-pass.marks in
-    let new = c.copy-from-slice.ensures.after ∙ c.step.ensures in
+    let new = c.copy_from_slice.ensures.after ∙ c.step.ensures in
     let fall = falls ks circuit marks (c.loop-pass.auto.marks ∙ c.requires.marks) c.args.pass c.loop-pass.invariant.2 (λ e. false≢true (c.if-same.ensures.1 (c.step.ensures ∙ e))) in
     subst (λ ms. total (weight c.args.pass) ms < total (weight c.args.pass) marks) (sym new) fall
 
@@ -28,11 +28,11 @@ loop-pass-preserved g c =
     let marks = c.loop-pass.marks in
     let n = c.loop-pass.steps in
     let long = c.loop-pass.auto.marks ∙ c.requires.marks in
-    let new = c.copy-from-slice.ensures.after ∙ c.step.ensures in
+    let new = c.copy_from_slice.ensures.after ∙ c.step.ensures in
     let at = c.loop-pass.invariant.0 in
     let moved : f marks ≡ marks → ⊥ = λ e. false≢true (c.if-same.ensures.1 (c.step.ensures ∙ e)) in
     let fall = falls ks circuit marks long pass c.loop-pass.invariant.2 moved in
-    let less : total (weight pass) c.copy-from-slice.new.self < total (weight pass) marks = subst (λ ms. total (weight pass) ms < total (weight pass) marks) (sym new) fall in
+    let less : total (weight pass) c.copy_from_slice.new.self < total (weight pass) marks = subst (λ ms. total (weight pass) ms < total (weight pass) marks) (sym new) fall in
     let so = c.loop-pass.invariant.3 in (
       new ∙ ap f at ∙ sym (ap (λ k. iterate f k start) (add-one n)),
       below_more (λ k. f (iterate f k start) ≡ iterate f k start → ⊥) n c.loop-pass.invariant.1 (λ e. moved (ap f at ∙ e ∙ sym at)),

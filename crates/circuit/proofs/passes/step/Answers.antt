@@ -16,7 +16,7 @@ loop-i-preserved g c =
 pub loop-g-preserved : goal.loop-g-preserved
 loop-g-preserved g c =
     let circuit = circuit_of c.args.tables.now in
-    let n = c.input-count-gates.ensures in
+    let n = c.input_count-gates.ensures in
     let here = at_gate circuit c.loop-g.g (omega arith) (omega arith) in
     step_more c.args.pass (g.L.GateLibrary.kinds c.args.library.now) circuit c.args.before.now c.loop-g.after c.loop-g.g _ _ _
     (omega arith) (here ∙ ap (λ k. signal.Gate (c.loop-g.g - k)) (omega arith)) c.driven-in-loop-g.ensures c.next-in-loop-g.ensures c.loop-g.invariant

@@ -6,7 +6,7 @@ pub loop-preserved : goal.loop-preserved
 loop-preserved g c =
     let old = vec_items c.args.vec.now in
     let value = c.args.value in (
-      c.push-reserved.ensures.items
+      c.push_reserved.ensures.items
           ∙ ap (λ xs. xs ++ value ∷ []) c.loop.invariant.0
           ∙ append_assoc old (replicate c.loop.counter value) (value ∷ [])
           ∙ ap (λ xs. old ++ xs) (replicate_more c.loop.counter value),

@@ -5,6 +5,6 @@ use Rattle.circuit.proofs.level.MarkLevel.gate_value.Goals as goal
 
 pub returns : goal.returns
 returns g c =
-    c.unwrap-or.ensures
+    c.unwrap_or.ensures
     ∙ ap (λ o. unwrap_or o Zero) c.extension.ensures
     ∙ sym (extended_gate (g.L.GateLibrary.kinds c.args.library.now) c.args.kind c.args.pins.now)

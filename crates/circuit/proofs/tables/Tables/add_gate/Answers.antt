@@ -3,24 +3,17 @@ use Rattle.std.proofs.lemmas.Bool.{le-leb, cond-true}
 use Rattle.circuit.proofs.Wired.{numbered_push, sourced_more, push_longer}
 use Rattle.circuit.proofs.tables.Tables.add_gate.Goals as goal
 
-pub invariant-of-self : goal.invariant-of-self
-invariant-of-self c =
+pub invariant_of-self : goal.invariant_of-self
+invariant_of-self c =
     let t = c.args.self.now in
     let gates = vec_items t.gates in
     let sources = vec_items t.sources in
-    let pushed = c.push-reserved.ensures.items in
-    let done : c.push-all.result ≡ true = c.push-all.ensures.answer ∙ le-leb _ _ (omega arith) in
-    let grown = c.push-all.ensures.items ∙ cond-true _ _ _ done in
-    let long = c.push-all.ensures.len ∙ cond-true _ _ _ done in (
-      (omega arith, omega arith, omega arith),
-      (
-        (omega arith, omega arith, omega arith),
-        (
-          numbered_push gates _ _ sources _ pushed grown (omega arith) t.numbered,
-          (
-            sourced_more _ _ _ _ c.args.pins sources _ (omega arith) (push_longer gates _ _ pushed) grown t.sourced,
-            tt,
-          ),
-        ),
-      ),
-    )
+    let pushed = c.push_reserved.ensures.items in
+    let done : c.push_all.result ≡ true = c.push_all.ensures.answer ∙ le-leb _ _ (omega arith) in
+    let grown = c.push_all.ensures.items ∙ cond-true _ _ _ done in
+    let long = c.push_all.ensures.len ∙ cond-true _ _ _ done in record {
+      reserved = (omega arith, omega arith, omega arith);
+      few = (omega arith, omega arith, omega arith);
+      numbered = numbered_push gates _ _ sources _ pushed grown (omega arith) t.numbered;
+      sourced = sourced_more _ _ _ _ c.args.pins sources _ (omega arith) (push_longer gates _ _ pushed) grown t.sourced;
+    }
