@@ -251,21 +251,21 @@ settled_passes (Some p) firsts seconds e z =
 
 -- what a derived comparison tells
 pub equal_tells : (x y : Signal) (t : Bool) → (t ≡ ghosts.eq x y) → cond t (x ≡ y) (x ≡ y → ⊥)
-equal_tells (signal.Input i) (signal.Input j) true e = ap signal.Input (e.0 refl)
-equal_tells (signal.Input i) (signal.Input j) false e = λ q. let z : i ≡ j = cc in false≢true (e.1 z)
+equal_tells (signal.Input i) (signal.Input j) true e = ap signal.Input (eqb-true i j (sym e))
+equal_tells (signal.Input i) (signal.Input j) false e = λ q. let z : i ≡ j = cc in false≢true (e ∙ eq-eqb i j z)
 equal_tells (signal.Input i) (signal.Gate j) true e = absurd (true≢false e)
 equal_tells (signal.Input i) (signal.Gate j) false e = λ q. let z : ◌≡◌ {A = ℕ} 0 1 = cc in omega arith
 equal_tells (signal.Input i) (signal.Wire j) true e = absurd (true≢false e)
 equal_tells (signal.Input i) (signal.Wire j) false e = λ q. let z : ◌≡◌ {A = ℕ} 0 1 = cc in omega arith
 equal_tells (signal.Gate i) (signal.Input j) true e = absurd (true≢false e)
 equal_tells (signal.Gate i) (signal.Input j) false e = λ q. let z : ◌≡◌ {A = ℕ} 0 1 = cc in omega arith
-equal_tells (signal.Gate i) (signal.Gate j) true e = ap signal.Gate (e.0 refl)
-equal_tells (signal.Gate i) (signal.Gate j) false e = λ q. let z : i ≡ j = cc in false≢true (e.1 z)
+equal_tells (signal.Gate i) (signal.Gate j) true e = ap signal.Gate (eqb-true i j (sym e))
+equal_tells (signal.Gate i) (signal.Gate j) false e = λ q. let z : i ≡ j = cc in false≢true (e ∙ eq-eqb i j z)
 equal_tells (signal.Gate i) (signal.Wire j) true e = absurd (true≢false e)
 equal_tells (signal.Gate i) (signal.Wire j) false e = λ q. let z : ◌≡◌ {A = ℕ} 0 1 = cc in omega arith
 equal_tells (signal.Wire i) (signal.Input j) true e = absurd (true≢false e)
 equal_tells (signal.Wire i) (signal.Input j) false e = λ q. let z : ◌≡◌ {A = ℕ} 0 1 = cc in omega arith
 equal_tells (signal.Wire i) (signal.Gate j) true e = absurd (true≢false e)
 equal_tells (signal.Wire i) (signal.Gate j) false e = λ q. let z : ◌≡◌ {A = ℕ} 0 1 = cc in omega arith
-equal_tells (signal.Wire i) (signal.Wire j) true e = ap signal.Wire (e.0 refl)
-equal_tells (signal.Wire i) (signal.Wire j) false e = λ q. let z : i ≡ j = cc in false≢true (e.1 z)
+equal_tells (signal.Wire i) (signal.Wire j) true e = ap signal.Wire (eqb-true i j (sym e))
+equal_tells (signal.Wire i) (signal.Wire j) false e = λ q. let z : i ≡ j = cc in false≢true (e ∙ eq-eqb i j z)

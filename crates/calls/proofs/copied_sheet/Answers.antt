@@ -4,8 +4,8 @@ use Rattle.record.specs.Views.{board_of}
 use Rattle.calls.proofs.Rooms.{sheet_read}
 use Rattle.calls.proofs.copied_sheet.Goals as goal
 
-pub returns-in-ok-from-slice : goal.returns-in-ok-from-slice
-returns-in-ok-from-slice g c =
+pub returns-in_ok-from_slice : goal.returns-in_ok-from_slice
+returns-in_ok-from_slice g c =
     let b = board_of g.L.GateLibrary.kinds c.args.held.now in
-    sheet_read (sheet_stop b (length c.args.page.now)) (sheet_of b) c.args.page.now c.sheet.new.buffer (vec_items c.in-ok-from-slice.field-0) c.in-Ok.length
-    c.in-Ok.ensures.answer c.in-Ok.ensures.buffer c.in-ok-from-slice.ensures.items
+    sheet_read (sheet_stop b (length c.args.page.now)) (sheet_of b) c.args.page.now c.sheet.new.buffer (vec_items c.in_ok-from_slice.field-0) c.in-Ok.length
+    c.in-Ok.ensures.answer c.in-Ok.ensures.buffer c.in_ok-from_slice.ensures.items

@@ -12,4 +12,4 @@ returns g c =
     let kinds = g.L.GateLibrary.kinds in
     let b = board_of kinds c.args.held.now in
     let end : c.min-end.result - 0 ≡ min c.args.room 1565 = omega arith in
-    subst (λ stop. IfOk c.copied-sheet.result (λ a. told_of a ≡ told_by stop (sheet (sheet_of b)))) (enough_room kinds c.args.held.now _ c.args.room (length-take-le (c.min-end.result - 0) _ (omega arith) ∙ end)) c.copied-sheet.ensures
+    subst (λ stop. IfOk c.copied_sheet.result (λ a. told_of a ≡ told_by stop (sheet (sheet_of b)))) (enough_room kinds c.args.held.now _ c.args.room (length-take-le (c.min-end.result - 0) _ (omega arith) ∙ end)) c.copied_sheet.ensures

@@ -7,22 +7,22 @@ use Rattle.gate_list_fields.proofs.is_name.Goals as goal
 some : (f : List ℕ) → false ≡ eqb (length f) 0 → 0 < length f
 some f h = omega (arith, eqb-false (length f) 0 (sym h))
 
-pub returns-then-is-empty : goal.returns-then-is-empty
-returns-then-is-empty c = sym (name_empty c.args.field.now (eqb-true (length c.args.field.now) 0 (sym c.if-is-empty.ensures)))
+pub returns-then-is_empty : goal.returns-then-is_empty
+returns-then-is_empty c = sym (name_empty c.args.field.now (eqb-true (length c.args.field.now) 0 (sym c.if-is_empty.ensures)))
 
 pub returns-then-not-letter : goal.returns-then-not-letter
 returns-then-not-letter c =
     let f = c.args.field.now in
-    sym (name_is f (some f c.if-is-empty.ensures) ∙ and_left _ (leb (length f) 16) (and_left _ (name_bytes (take (length f - 1) (drop 1 f))) (sym c.if-not-letter.ensures)))
+    sym (name_is f (some f c.if-is_empty.ensures) ∙ and_left _ (leb (length f) 16) (and_left _ (name_bytes (take (length f - 1) (drop 1 f))) (sym c.if-not-letter.ensures)))
 
-pub returns-then-not-all-name-bytes : goal.returns-then-not-all-name-bytes
-returns-then-not-all-name-bytes c =
+pub returns-then-not-all_name_bytes : goal.returns-then-not-all_name_bytes
+returns-then-not-all_name_bytes c =
     let f = c.args.field.now in
-    sym (name_is f (some f c.if-is-empty.ensures) ∙ and_left _ (leb (length f) 16) (and_right (letter (get_or f 0 0)) _ (sym c.if-not-all-name-bytes.ensures)))
+    sym (name_is f (some f c.if-is_empty.ensures) ∙ and_left _ (leb (length f) 16) (and_right (letter (get_or f 0 0)) _ (sym c.if-not-all_name_bytes.ensures)))
 
 pub returns : goal.returns
 returns c =
     let f = c.args.field.now in
-    sym (name_is f (some f c.if-is-empty.ensures)
+    sym (name_is f (some f c.if-is_empty.ensures)
     ∙ ap (λ t. t && name_bytes (take (length f - 1) (drop 1 f)) && leb (length f) 16) (sym c.if-not-letter.ensures)
-    ∙ ap (λ t. t && leb (length f) 16) (sym c.if-not-all-name-bytes.ensures))
+    ∙ ap (λ t. t && leb (length f) 16) (sym c.if-not-all_name_bytes.ensures))

@@ -12,8 +12,8 @@ longer n ds d e = ap length e ∙ length_push ds d
 pub put-requires : goal.put-requires
 put-requires t c = let e = ap length (decimal_digit c.args.number c.if-number-lt10.true) in omega arith
 
-pub put-number-mid-requires : goal.put-number-mid-requires
-put-number-mid-requires t c =
+pub put_number-mid-requires : goal.put_number-mid-requires
+put_number-mid-requires t c =
     let n = c.args.number in
     let e = longer n (decimal (n / 10)) (48 + n % 10) (decimal_step n c.if-number-lt10.false (omega arith)) in
     (search rules, omega arith)
@@ -22,7 +22,7 @@ pub put-requires-else-number-lt10 : goal.put-requires-else-number-lt10
 put-requires-else-number-lt10 t c =
     let n = c.args.number in
     let e = longer n (decimal (n / 10)) (48 + n % 10) (decimal_step n c.if-number-lt10.false (omega arith)) in
-    let l = c.put-number-mid.ensures.wrote.long in
+    let l = c.put_number-mid.ensures.wrote.long in
     omega arith
 
 pub returns-then-number-lt10 : goal.returns-then-number-lt10
@@ -39,8 +39,8 @@ returns-else-number-lt10 t c =
     let n = c.args.number in
     let d = decimal_step n c.if-number-lt10.false (omega arith) in
     let e = longer n (decimal (n / 10)) (48 + n % 10) d in
-    let both = wrote_then c.args.buffer.now c.put-number-mid.new.buffer c.put-else-number-lt10.new.buffer c.args.at c.put-number-mid.result (decimal (n / 10)) ((48 + n % 10) ∷ []) c.put-number-mid.ensures.wrote c.put-number-mid.ensures.end c.put-else-number-lt10.ensures.wrote in
-    let m = c.put-number-mid.ensures.end in
+    let both = wrote_then c.args.buffer.now c.put_number-mid.new.buffer c.put-else-number-lt10.new.buffer c.args.at c.put_number-mid.result (decimal (n / 10)) ((48 + n % 10) ∷ []) c.put_number-mid.ensures.wrote c.put_number-mid.ensures.end c.put-else-number-lt10.ensures.wrote in
+    let m = c.put_number-mid.ensures.end in
     record {
       end = omega arith;
       wrote = subst (λ bs. Wrote c.args.buffer.now c.put-else-number-lt10.new.buffer c.args.at bs) (sym d) both;

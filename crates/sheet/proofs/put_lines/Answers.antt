@@ -17,9 +17,9 @@ loop-i-preserved c =
     let i = c.loop-i.i in
     let so = lines (take i fs) (take i ss) in
     let long = length-lines (take i fs) (take i ss) (omega (arith, length-take i fs, length-take i ss)) in
-    let more = wrote_then c.args.buffer.now c.loop-i.buffer c.put-line-at.new.buffer c.args.start c.loop-i.at so _ c.loop-i.invariant.1 (omega (arith, length-take i fs)) c.put-line-at.ensures.wrote in (
+    let more = wrote_then c.args.buffer.now c.loop-i.buffer c.put_line-at.new.buffer c.args.start c.loop-i.at so _ c.loop-i.invariant.1 (omega (arith, length-take i fs)) c.put_line-at.ensures.wrote in (
       omega arith,
-      subst (λ bs. Wrote c.args.buffer.now c.put-line-at.new.buffer c.args.start bs) (sym (lines_more fs ss i c.loop-i-test.true (omega arith))) more,
+      subst (λ bs. Wrote c.args.buffer.now c.put_line-at.new.buffer c.args.start bs) (sym (lines_more fs ss i c.loop-i-test.true (omega arith))) more,
     )
 
 pub returns : goal.returns

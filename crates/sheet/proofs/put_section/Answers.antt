@@ -4,14 +4,14 @@ use Rattle.sheet.proofs.Writes.{wrote_then, length-lines}
 use Rattle.sheet.proofs.Sheets.{length-section}
 use Rattle.sheet.proofs.put_section.Goals as goal
 
-pub put-bytes-at-requires : goal.put-bytes-at-requires
-put-bytes-at-requires c =
+pub put_bytes-at-requires : goal.put_bytes-at-requires
+put_bytes-at-requires c =
     let long = length-section c.args.word.now c.args.firsts.now c.args.seconds.now _ c.requires.level refl in
     let room = c.requires.room in
     omega arith
 
-pub put-number-at-requires : goal.put-number-at-requires
-put-number-at-requires c =
+pub put_number-at-requires : goal.put_number-at-requires
+put_number-at-requires c =
     let long = length-section c.args.word.now c.args.firsts.now c.args.seconds.now _ c.requires.level refl in
     let room = c.requires.room in
     omega arith
@@ -22,8 +22,8 @@ put-at-requires c =
     let room = c.requires.room in
     omega arith
 
-pub put-lines-requires : goal.put-lines-requires
-put-lines-requires c =
+pub put_lines-requires : goal.put_lines-requires
+put_lines-requires c =
     let long = length-section c.args.word.now c.args.firsts.now c.args.seconds.now _ c.requires.level refl in
     let room = c.requires.room in
     record { room = omega arith; level = c.requires.level }
@@ -34,9 +34,9 @@ returns c =
     let ss = c.args.seconds.now in
     let word = c.args.word.now in
     let long = length-section word fs ss _ c.requires.level refl in
-    let ending = wrote_then _ _ c.put-lines.new.buffer _ _ (10 ∷ []) (lines fs ss) c.put-at.ensures.wrote c.put-at.ensures.end c.put-lines.ensures.wrote in
-    let counted = wrote_then _ _ c.put-lines.new.buffer _ _ (decimal (length fs)) (10 ∷ lines fs ss) c.put-number-at.ensures.wrote c.put-number-at.ensures.end ending in
+    let ending = wrote_then _ _ c.put_lines.new.buffer _ _ (10 ∷ []) (lines fs ss) c.put-at.ensures.wrote c.put-at.ensures.end c.put_lines.ensures.wrote in
+    let counted = wrote_then _ _ c.put_lines.new.buffer _ _ (decimal (length fs)) (10 ∷ lines fs ss) c.put_number-at.ensures.wrote c.put_number-at.ensures.end ending in
     record {
       end = omega arith;
-      wrote = wrote_then c.args.buffer.now _ c.put-lines.new.buffer c.args.start _ word (decimal (length fs) ++ 10 ∷ lines fs ss) c.put-bytes-at.ensures.wrote c.put-bytes-at.ensures.end counted;
+      wrote = wrote_then c.args.buffer.now _ c.put_lines.new.buffer c.args.start _ word (decimal (length fs) ++ 10 ∷ lines fs ss) c.put_bytes-at.ensures.wrote c.put_bytes-at.ensures.end counted;
     }

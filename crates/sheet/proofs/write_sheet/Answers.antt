@@ -19,8 +19,8 @@ returns-then-buffer-size c = (
   refl,
 )
 
-pub put-sheet-requires : goal.put-sheet-requires
-put-sheet-requires c =
+pub put_sheet-requires : goal.put_sheet-requires
+put_sheet-requires c =
     let n = c.args.inputs in
     let r = c.args.gates in
     let fs = c.args.firsts.now in
@@ -43,5 +43,5 @@ returns c =
     let a = c.digits.ensures.value in
     let b = c.digits-2.ensures.value in
     let d = c.digits-3.ensures.value in
-    let end = c.put-sheet.ensures.end in
-    (s, end, omega arith, wrote_start c.args.buffer.now _ (sheet n r fs ss) c.put-sheet.ensures.wrote)
+    let end = c.put_sheet.ensures.end in
+    (s, end, omega arith, wrote_start c.args.buffer.now _ (sheet n r fs ss) c.put_sheet.ensures.wrote)

@@ -26,5 +26,5 @@ returns-in-16-to-23 c =
     let at : 8 * 2 + (k - 15) - 1 ≡ k = omega arith in
     sym (plain_numbered.xors (k - 15) (omega arith) (omega arith)) ∙ ap (slice_get plain) at
 
-pub returns-in-default : goal.returns-in-default
-returns-in-default c = sym (slice_get_past plain c.args.kind (omega (arith, plain_numbered.count)))
+pub returns-in_default : goal.returns-in_default
+returns-in_default c = sym (slice_get_past plain c.args.kind (omega (arith, plain_numbered.count)))

@@ -8,8 +8,8 @@ use Rattle.table_cells.specs.Table.{kinds_in, cell_stop}
 use Rattle.table_cells.specs.Tabled.{narrow_push}
 use Rattle.table_cells.proofs.TableCells.add.Goals as goal
 
-pub returns-then-kind-ge-MAX-CELLS : goal.returns-then-kind-ge-MAX-CELLS
-returns-then-kind-ge-MAX-CELLS c =
+pub returns-then-kind-ge-MAX_CELLS : goal.returns-then-kind-ge-MAX_CELLS
+returns-then-kind-ge-MAX_CELLS c =
     let old = kinds_in c.args.self.now in
     let same_count = length-map (vec_items c.args.self.now.cells) kind_of in
     let stopped : cell_stop old c.args.pins ≡ Some (stop 20) = grind (arith, nat_tests) in
@@ -18,10 +18,14 @@ returns-then-kind-ge-MAX-CELLS c =
       kinds = sym (ap (λ s. left_by s old (old ++ cell_kind c.args.pins c.args.truth ∷ [])) stopped);
     }
 
-pub invariant-of-self : goal.invariant-of-self
-invariant-of-self c =
+pub invariant_of-self : goal.invariant_of-self
+invariant_of-self c =
     let t = c.args.self.now in
-    (omega arith, (omega arith, (narrow_push (vec_items t.cells) _ _ c.push-reserved.ensures.items t.narrow (omega arith, omega arith), tt)))
+    record {
+      reserved = omega arith;
+      few = omega arith;
+      narrow = narrow_push (vec_items t.cells) _ _ c.push_reserved.ensures.items t.narrow (omega arith, omega arith);
+    }
 
 pub returns : goal.returns
 returns c =
@@ -33,5 +37,5 @@ returns c =
     let number : c.len-kind.result ≡ length old = omega arith in
     record {
       answer = ap answer number ∙ sym (ap (λ s. told_by s (length old)) passed);
-      kinds = ap kinds_of c.push-reserved.ensures.items ∙ map_push kind_of cells _ ∙ sym (ap (λ s. left_by s old new) passed);
+      kinds = ap kinds_of c.push_reserved.ensures.items ∙ map_push kind_of cells _ ∙ sym (ap (λ s. left_by s old new) passed);
     }

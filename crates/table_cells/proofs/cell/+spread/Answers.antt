@@ -4,14 +4,14 @@ use Rattle.gates.specs.Marks.{settled}
 use Rattle.table_cells.proofs.Spread.{room_now, room_rest, spread_zero, spread_one, spread-unknown, spread_none}
 use Rattle.table_cells.proofs.cell.+spread.Goals as goal
 
-pub overflow-mul-next : goal.overflow-mul-next
-overflow-mul-next t c = omega (arith, room_now c.args.weight (length c.args.marks.now) c.requires.room)
+pub overflow_mul-next : goal.overflow_mul-next
+overflow_mul-next t c = omega (arith, room_now c.args.weight (length c.args.marks.now) c.requires.room)
 
-pub overflow-add-index : goal.overflow-add-index
-overflow-add-index t c = omega (arith, room_now c.args.weight (length c.args.marks.now) c.requires.room)
+pub overflow_add-index : goal.overflow_add-index
+overflow_add-index t c = omega (arith, room_now c.args.weight (length c.args.marks.now) c.requires.room)
 
-pub overflow-add-index-in-Unknown : goal.overflow-add-index-in-Unknown
-overflow-add-index-in-Unknown t c = omega (arith, room_now c.args.weight (length c.args.marks.now) c.requires.room)
+pub overflow_add-index-in-Unknown : goal.overflow_add-index-in-Unknown
+overflow_add-index-in-Unknown t c = omega (arith, room_now c.args.weight (length c.args.marks.now) c.requires.room)
 
 pub spread-requires : goal.spread-requires
 spread-requires t c =
@@ -35,7 +35,7 @@ spread-high-requires t c =
 
 pub returns-in-empty : goal.returns-in-empty
 returns-in-empty t c =
-    c.of-bit.ensures ∙ ap settled c.bit.ensures
+    c.of_bit.ensures ∙ ap settled c.bit.ensures
     ∙ sym (spread_none c.args.truth c.args.index c.args.weight c.args.marks.now (omega (arith, ltb-true)))
 
 pub returns-in-Zero : goal.returns-in-Zero

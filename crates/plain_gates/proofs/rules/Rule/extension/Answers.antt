@@ -7,10 +7,10 @@ use Rattle.plain_gates.proofs.rules.Rule.extension.Goals as goal
 pub loop-more-preserved : goal.loop-more-preserved
 loop-more-preserved c =
     let out : ℕ → Bool = λ k. output_at c.args.self k (length c.args.marks.now) in
-    let sure = c.mark-counts-sure.result.0 in
+    let sure = c.mark_counts-sure.result.0 in
     let more = c.loop-more.more in
     c.lub-mark.ensures
-    ∙ ap (lub c.loop-more.mark) (c.of-bit.ensures ∙ ap settled c.output-in-loop-more.ensures)
+    ∙ ap (lub c.loop-more.mark) (c.of_bit.ensures ∙ ap settled c.output-in-loop-more.ensures)
     ∙ ap (λ m. lub m (settled (out (sure + more + 1)))) c.loop-more.invariant
     ∙ ap (spread out sure) (sym (add-one more))
 
@@ -20,6 +20,6 @@ returns c =
     let out : ℕ → Bool = λ k. output_at c.args.self k (length marks) in
     let all : c.loop-more.more ≡ unknowns marks = omega arith in
     c.loop-more.invariant
-    ∙ ap (λ n. spread out n c.loop-more.more) c.mark-counts-sure.ensures.sure
+    ∙ ap (λ n. spread out n c.loop-more.more) c.mark_counts-sure.ensures.sure
     ∙ ap (spread out _) all
     ∙ sym (extended_rule c.args.self marks)

@@ -9,15 +9,15 @@ use Rattle.record.specs.Views.{board_of}
 use Rattle.record.proofs.Fired.{told_none, told_some, told_passed, entry_passed, entry_stopped}
 use Rattle.record.proofs.record.Record.check_entries.Goals as goal
 
-pub returns-in-err-check-entry : goal.returns-in-err-check-entry
-returns-in-err-check-entry g c =
+pub returns-in_err-check_entry : goal.returns-in_err-check_entry
+returns-in_err-check_entry g c =
     let b = board_of g.L.GateLibrary.kinds c.args.self.now in
     let signals = c.args.signals.now in
     let i = c.loop-i.i in
-    let s = stop_of c.in-err-check-entry.field-0.0 in
-    let stops = subst (λ n. entry_stop b (take n signals) (get_or signals i (signal.Input 0)) ≡ Some s) (omega arith) (told_some (entry_stop b (take (i - 0) signals) (get_or signals i (signal.Input 0))) tt s c.in-err-check-entry.ensures) in
+    let s = stop_of c.in_err-check_entry.field-0.0 in
+    let stops = subst (λ n. entry_stop b (take n signals) (get_or signals i (signal.Input 0)) ≡ Some s) (omega arith) (told_some (entry_stop b (take (i - 0) signals) (get_or signals i (signal.Input 0))) tt s c.in_err-check_entry.ensures) in
     let all = sym c.loop-i.invariant ∙ entry_stopped b signals i (signal.Input 0) s c.loop-i-test.true stops in
-    let p = err_from_is_err_and c.from-residual.result c.from-residual.ensures.1 in
+    let p = err_from_is_err_and c.from_residual.result c.from_residual.ensures.1 in
     rw (p.1, p.2) (sym (ap (λ stop. told_by stop tt) all))
 
 pub loop-i-preserved : goal.loop-i-preserved
@@ -25,7 +25,7 @@ loop-i-preserved g c =
     let b = board_of g.L.GateLibrary.kinds c.args.self.now in
     let signals = c.args.signals.now in
     let i = c.loop-i.i in
-    let passes = subst (λ n. entry_stop b (take n signals) (get_or signals i (signal.Input 0)) ≡ None) (omega arith) (told_none (entry_stop b (take (i - 0) signals) (get_or signals i (signal.Input 0))) tt _ c.in-ok-check-entry.ensures) in
+    let passes = subst (λ n. entry_stop b (take n signals) (get_or signals i (signal.Input 0)) ≡ None) (omega arith) (told_none (entry_stop b (take (i - 0) signals) (get_or signals i (signal.Input 0))) tt _ c.in_ok-check_entry.ensures) in
     entry_passed b signals i (signal.Input 0) c.loop-i-test.true passes ∙ c.loop-i.invariant
 
 pub returns : goal.returns

@@ -10,40 +10,35 @@ use Rattle.record.specs.Views.{board_of}
 use Rattle.record.proofs.Fired.{told_none, told_passed, left_passed, first_passed, unless_true, entries_pass, fired_race}
 use Rattle.record.proofs.record.Record.fire.Goals as goal
 
-pub complement-all-requires : goal.complement-all-requires
-complement-all-requires g c =
+pub complement_all-requires : goal.complement_all-requires
+complement_all-requires g c =
     let r = c.args.self.now in
     let old = board_of g.L.GateLibrary.kinds r in
     record {
-      there = (entries_pass old [] c.args.signals.now (told_none _ _ _ c.in-ok-check-entries.ensures)).there;
-      whole = ap length c.deref-mut.ensures.value ∙ r.valued;
+      there = (entries_pass old [] c.args.signals.now (told_none _ _ _ c.in_ok-check_entries.ensures)).there;
+      whole = ap length c.deref_mut.ensures.value ∙ r.valued;
     }
 
-pub invariant-of-self-2 : goal.invariant-of-self-2
-invariant-of-self-2 g c =
+pub invariant_of-self-2 : goal.invariant_of-self-2
+invariant_of-self-2 g c =
     let r = c.args.self.now in
-    let values = with_items_is r.values c.complement-all.new.values (c.complement-all.auto.values ∙ c.deref-mut.ensures.len) in (
-      (omega arith, omega arith, omega arith, omega arith),
-      (
-        ap length values ∙ c.complement-all.auto.values ∙ ap length c.deref-mut.ensures.value ∙ r.valued,
-        (
-          (λ e. absurd (false≢true e)),
-          tt,
-        ),
-      ),
-    )
+    let values = with_items_is r.values c.complement_all.new.values (c.complement_all.auto.values ∙ c.deref_mut.ensures.len) in record {
+      reserved = (omega arith, omega arith, omega arith, omega arith);
+      valued = ap length values ∙ c.complement_all.auto.values ∙ ap length c.deref_mut.ensures.value ∙ r.valued;
+      marked = (λ e. absurd (false≢true e));
+    }
 
 pub returns : goal.returns
 returns g c =
     let r = c.args.self.now in
     let old = board_of g.L.GateLibrary.kinds r in
     let signals = c.args.signals.now in
-    let entries = told_none _ _ _ c.in-ok-check-entries.ensures in
-    let pins : unjoined_stop old ≡ None = ap at_pin (sym c.first_unjoined.ensures ∙ c.in-default.is) in
-    let some = unless_true (not (eqb (length signals) 0)) 6 (ap not (sym c.is-empty.ensures ∙ c.if-is-empty.false)) in
+    let entries = told_none _ _ _ c.in_ok-check_entries.ensures in
+    let pins : unjoined_stop old ≡ None = ap at_pin (sym c.first_unjoined.ensures ∙ c.in_default.is) in
+    let some = unless_true (not (eqb (length signals) 0)) 6 (ap not (sym c.is_empty.ensures ∙ c.if-is_empty.false)) in
     let passes : fire_stop old signals ≡ None = first_passed (unjoined_stop old) (unless (not (eqb (length signals) 0)) 6 ∷ entry_stops old [] signals) pins ∙ first_passed _ (entry_stops old [] signals) some ∙ entries in
-    let values = with_items_is r.values c.complement-all.new.values (c.complement-all.auto.values ∙ c.deref-mut.ensures.len) in
-    let now' = values ∙ c.complement-all.ensures ∙ ap (fired old.circuit signals) c.deref-mut.ensures.value in
+    let values = with_items_is r.values c.complement_all.new.values (c.complement_all.auto.values ∙ c.deref_mut.ensures.len) in
+    let now' = values ∙ c.complement_all.ensures ∙ ap (fired old.circuit signals) c.deref_mut.ensures.value in
     record {
       answer = told_passed (fire_stop old signals) tt passes;
       after = ap (changed old old.circuit) now' ∙ sym (left_passed (fire_stop old signals) _ _ passes);
