@@ -11,8 +11,8 @@ use Rattle.gate_list.specs.Tables.{gate_entry}
 use Rattle.gate_list.proofs.Laying.{rest_short, laid_more, written_more, gates_named, gate_entry_is, gate_pins_are, gates_step, both_names}
 use Rattle.gate_list.proofs.read_gates.Goals as goal
 
-pub overflow-sub-place : goal.overflow-sub-place
-overflow-sub-place c = rest_short write_gate gate_onto c.args.whole.now c.args.text.now c.loop-i.invariant.0 c.loop-i.rest.now c.requires.rest c.loop-i.invariant.1.written
+pub overflow_sub-place : goal.overflow_sub-place
+overflow_sub-place c = rest_short write_gate gate_onto c.args.whole.now c.args.text.now c.loop-i.invariant.0 c.loop-i.rest.now c.requires.rest c.loop-i.invariant.1.written
 
 pub returns-in-Err : goal.returns-in-Err
 returns-in-Err c = λ is named next.

@@ -13,13 +13,13 @@ loop-k-init c = λ gs front l e same line o.
     let ns = input_names_in c.args.text.now c.args.inputs.now ++ gate_names_in c.args.text.now c.args.gates.now in
     ap (λ m. sourced ns m gs o) (let z : line ≡ line + 0 = omega arith in z)
 
-pub returns-then-not-gate-known : goal.returns-then-not-gate-known
-returns-then-not-gate-known c = λ gs front l e same.
+pub returns-then-not-gate_known : goal.returns-then-not-gate_known
+returns-then-not-gate_known c = λ gs front l e same.
     let ns = input_names_in c.args.text.now c.args.inputs.now ++ gate_names_in c.args.text.now c.args.gates.now in
     let k = c.loop-k.k in
     let here : k < length gs = omega (arith, ap length same ∙ length-laid write_gate gate_entry (length front) gs, c.loop-k-test.true) in
     let at = gate_here c.args.text.now c.args.gates.now gs front k _ e same here in
-    let not_known = c.if-not-gate-known.ensures (get_or gs k none) at.0 (All-get_or LawfulGate gs k none here l) at.1 in
+    let not_known = c.if-not-gate_known.ensures (get_or gs k none) at.0 (All-get_or LawfulGate gs k none here l) at.1 in
     (here, (λ line o. c.loop-k.invariant gs front l e same line o ∙ sourced_not ns gs k line o here not_known))
 
 pub loop-k-preserved : goal.loop-k-preserved
@@ -28,7 +28,7 @@ loop-k-preserved c = λ gs front l e same line o.
     let k = c.loop-k.k in
     let here : k < length gs = omega (arith, ap length same ∙ length-laid write_gate gate_entry (length front) gs, c.loop-k-test.true) in
     let at = gate_here c.args.text.now c.args.gates.now gs front k _ e same here in
-    let known = c.if-not-gate-known.ensures (get_or gs k none) at.0 (All-get_or LawfulGate gs k none here l) at.1 in
+    let known = c.if-not-gate_known.ensures (get_or gs k none) at.0 (All-get_or LawfulGate gs k none here l) at.1 in
     c.loop-k.invariant gs front l e same line o ∙ sourced_more ns gs k line o here known
 
 pub returns : goal.returns

@@ -5,21 +5,21 @@ use Rattle.gate_list_format.specs.Reading.{pin_forms}
 use Rattle.gate_list_lines.proofs.Steps.{pin_step, last_pin, spaced, spaced_push, spaced_last, all_push}
 use Rattle.gate_list_lines.proofs.pins_part.Goals as goal
 
-pub returns-in-err-rest : goal.returns-in-err-rest
-returns-in-err-rest c =
-    let p = err_from_is_err_and c.from-residual.result c.from-residual.ensures.1 in
+pub returns-in_err-rest : goal.returns-in_err-rest
+returns-in_err-rest c =
+    let p = err_from_is_err_and c.from_residual.result c.from_residual.ensures.1 in
     let i = c.loop-i.i in
     let ps = c.loop-i.invariant.0 in
     rw (p.1, p.2) (λ line next.
     c.loop-i.invariant.3 line next
     ∙ pin_step c.args.count i ps next line c.loop-i.rest.now c.loop-i-test.true
-    ∙ c.in-err-rest.ensures line (λ q. pin_forms (c.args.count - (i + 1)) (ps ++ (q ∷ [])) next))
+    ∙ c.in_err-rest.ensures line (λ q. pin_forms (c.args.count - (i + 1)) (ps ++ (q ∷ [])) next))
 
 pub loop-i-preserved : goal.loop-i-preserved
 loop-i-preserved c =
     let i = c.loop-i.i in
     let ps = c.loop-i.invariant.0 in
-    let ok = c.in-ok-rest.ensures in
+    let ok = c.in_ok-rest.ensures in
     let q = ok.0 in (
       ps ++ (q ∷ []),
       length_push ps q ∙ ap (λ n. n + 1) c.loop-i.invariant.1,
@@ -31,21 +31,21 @@ loop-i-preserved c =
       c.loop-i.invariant.4 ∙ ap (spaced ps) ok.2.written ∙ spaced_push ps q _,
     )
 
-pub returns-in-err-pin : goal.returns-in-err-pin
-returns-in-err-pin c =
-    let p = err_from_is_err_and c.from-residual-in-err-pin.result c.from-residual-in-err-pin.ensures.1 in
+pub returns-in_err-pin : goal.returns-in_err-pin
+returns-in_err-pin c =
+    let p = err_from_is_err_and c.from_residual-in_err-pin.result c.from_residual-in_err-pin.ensures.1 in
     let i = c.loop-i.i in
     let ps = c.loop-i.invariant.0 in
     rw (p.1, p.2) (λ line next.
     c.loop-i.invariant.3 line next
     ∙ last_pin c.args.count i ps next line c.loop-i.rest.now (omega arith)
-    ∙ c.in-err-pin.ensures line (λ q. next (ps ++ (q ∷ []))))
+    ∙ c.in_err-pin.ensures line (λ q. next (ps ++ (q ∷ []))))
 
 pub returns : goal.returns
 returns c =
     let i = c.loop-i.i in
     let ps = c.loop-i.invariant.0 in
-    let ok = c.in-ok-pin.ensures in
+    let ok = c.in_ok-pin.ensures in
     let q = ok.0 in (
       ps ++ (q ∷ []),
       record {

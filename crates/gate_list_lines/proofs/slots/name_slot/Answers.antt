@@ -11,24 +11,24 @@ pub returns-in-Some : goal.returns-in-Some
 returns-in-Some c =
     let ins = input_names_in c.args.whole.now c.args.inputs.now in
     let outs = gate_names_in c.args.whole.now c.args.gates.now in
-    let f = c.split-field.result.0.now in
-    failed (new_name (ins ++ outs)) space c.args.text.now f 17 c.split-field.ensures.0
-    (name_repeated (ins ++ outs) f (sym c.if-not-is-name.ensures) (source_member f ins outs (Some _) c.in-Some.ensures))
+    let f = c.split_field.result.0.now in
+    failed (new_name (ins ++ outs)) space c.args.text.now f 17 c.split_field.ensures.0
+    (name_repeated (ins ++ outs) f (sym c.if-not-is_name.ensures) (source_member f ins outs (Some _) c.in-Some.ensures))
 
 pub returns-in-Some-close : goal.returns-in-Some-close
 returns-in-Some-close c =
     let ins = input_names_in c.args.whole.now c.args.inputs.now in
     let outs = gate_names_in c.args.whole.now c.args.gates.now in
-    let f = c.split-field.result.0.now in
-    went (new_name (ins ++ outs)) space c.args.text.now f c.split-field.result.1.now 0 c.in-Some-close.rest.now c.split-field.ensures.0 c.split-field.ensures.1
-    (name_new (ins ++ outs) f (sym c.if-not-is-name.ensures) (source_member f ins outs None c.in-None.ensures))
+    let f = c.split_field.result.0.now in
+    went (new_name (ins ++ outs)) space c.args.text.now f c.split_field.result.1.now 0 c.in-Some-close.rest.now c.split_field.ensures.0 c.split_field.ensures.1
+    (name_new (ins ++ outs) f (sym c.if-not-is_name.ensures) (source_member f ins outs None c.in-None.ensures))
     c.in-Some-close.ensures
 
 pub returns-in-None-close : goal.returns-in-None-close
 returns-in-None-close c =
     let ins = input_names_in c.args.whole.now c.args.inputs.now in
     let outs = gate_names_in c.args.whole.now c.args.gates.now in
-    let f = c.split-field.result.0.now in
-    unended (new_name (ins ++ outs)) space c.args.text.now f c.split-field.result.1.now 0 c.split-field.ensures.0 c.split-field.ensures.1
-    (name_new (ins ++ outs) f (sym c.if-not-is-name.ensures) (source_member f ins outs None c.in-None.ensures))
+    let f = c.split_field.result.0.now in
+    unended (new_name (ins ++ outs)) space c.args.text.now f c.split_field.result.1.now 0 c.split_field.ensures.0 c.split_field.ensures.1
+    (name_new (ins ++ outs) f (sym c.if-not-is_name.ensures) (source_member f ins outs None c.in-None.ensures))
     c.in-None-close.ensures

@@ -4,4 +4,4 @@ use Rattle.gate_list_fields.proofs.Numbers.{word_bad}
 use Rattle.gate_list_lines.proofs.words.word.Goals as goal
 
 pub returns-in-None : goal.returns-in-None
-returns-in-None c = word_bad c.args.field.now (omega (arith, eqb-false (length c.args.field.now) 0 (sym c.if-is-empty.ensures))) c.in-None.ensures
+returns-in-None c = word_bad c.args.field.now (omega (arith, eqb-false (length c.args.field.now) 0 (sym c.if-is_empty.ensures))) c.in-None.ensures
