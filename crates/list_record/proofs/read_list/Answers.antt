@@ -5,40 +5,40 @@ use Rattle.list_record.specs.Entering.{verdict}
 use Rattle.list_record.proofs.Checked.{Checked, checked, input_rows, gate_rows}
 use Rattle.list_record.proofs.read_list.Goals as goal
 
-pub slice-bounds-enter-list-end : goal.slice-bounds-enter-list-end
-slice-bounds-enter-list-end c =
-    let k = checked (length c.args.inputs.now) (length c.args.gates.now) c.args.text.now c.in-ok-n.n c.in-ok-n.r c.in-ok-n.ensures.answer in
+pub slice_bounds-enter_list-end : goal.slice_bounds-enter_list-end
+slice_bounds-enter_list-end c =
+    let k = checked (length c.args.inputs.now) (length c.args.gates.now) c.args.text.now c.in_ok-n.n c.in_ok-n.r c.in_ok-n.ensures.answer in
     omega (arith, k.listed.lawful.inputs, k.input_count, k.input_room)
 
-pub slice-bounds-enter-list-end-2 : goal.slice-bounds-enter-list-end-2
-slice-bounds-enter-list-end-2 c =
-    let k = checked (length c.args.inputs.now) (length c.args.gates.now) c.args.text.now c.in-ok-n.n c.in-ok-n.r c.in-ok-n.ensures.answer in
-    sym (length-take-le c.in-ok-n.n c.check-list.new.inputs (omega (arith, k.listed.lawful.inputs, k.input_count, k.input_room)))
+pub slice_bounds-enter_list-end-2 : goal.slice_bounds-enter_list-end-2
+slice_bounds-enter_list-end-2 c =
+    let k = checked (length c.args.inputs.now) (length c.args.gates.now) c.args.text.now c.in_ok-n.n c.in_ok-n.r c.in_ok-n.ensures.answer in
+    sym (length-take-le c.in_ok-n.n c.check_list.new.inputs (omega (arith, k.listed.lawful.inputs, k.input_count, k.input_room)))
 
-pub slice-bounds-enter-list-end-3 : goal.slice-bounds-enter-list-end-3
-slice-bounds-enter-list-end-3 c =
-    let k = checked (length c.args.inputs.now) (length c.args.gates.now) c.args.text.now c.in-ok-n.n c.in-ok-n.r c.in-ok-n.ensures.answer in
+pub slice_bounds-enter_list-end-3 : goal.slice_bounds-enter_list-end-3
+slice_bounds-enter_list-end-3 c =
+    let k = checked (length c.args.inputs.now) (length c.args.gates.now) c.args.text.now c.in_ok-n.n c.in_ok-n.r c.in_ok-n.ensures.answer in
     omega (arith, k.listed.lawful.gates, k.gate_count, k.gate_room)
 
-pub slice-bounds-enter-list-end-4 : goal.slice-bounds-enter-list-end-4
-slice-bounds-enter-list-end-4 c =
-    let k = checked (length c.args.inputs.now) (length c.args.gates.now) c.args.text.now c.in-ok-n.n c.in-ok-n.r c.in-ok-n.ensures.answer in
-    sym (length-take-le c.in-ok-n.r c.check-list.new.gates (omega (arith, k.listed.lawful.gates, k.gate_count, k.gate_room)))
+pub slice_bounds-enter_list-end-4 : goal.slice_bounds-enter_list-end-4
+slice_bounds-enter_list-end-4 c =
+    let k = checked (length c.args.inputs.now) (length c.args.gates.now) c.args.text.now c.in_ok-n.n c.in_ok-n.r c.in_ok-n.ensures.answer in
+    sym (length-take-le c.in_ok-n.r c.check_list.new.gates (omega (arith, k.listed.lawful.gates, k.gate_count, k.gate_room)))
 
-pub enter-list-requires : goal.enter-list-requires
-enter-list-requires c =
-    let k = checked (length c.args.inputs.now) (length c.args.gates.now) c.args.text.now c.in-ok-n.n c.in-ok-n.r c.in-ok-n.ensures.answer in
-    omega (arith, k.listed.lawful.gates, k.gate_count, k.gate_room, length-take-le c.in-ok-n.r c.check-list.new.gates (omega (arith, k.listed.lawful.gates, k.gate_count, k.gate_room)))
+pub enter_list-requires : goal.enter_list-requires
+enter_list-requires c =
+    let k = checked (length c.args.inputs.now) (length c.args.gates.now) c.args.text.now c.in_ok-n.n c.in_ok-n.r c.in_ok-n.ensures.answer in
+    omega (arith, k.listed.lawful.gates, k.gate_count, k.gate_room, length-take-le c.in_ok-n.r c.check_list.new.gates (omega (arith, k.listed.lawful.gates, k.gate_count, k.gate_room)))
 
 pub returns : goal.returns
 returns c =
-    let told = c.in-ok-n.ensures in
-    let k = checked (length c.args.inputs.now) (length c.args.gates.now) c.args.text.now c.in-ok-n.n c.in-ok-n.r told.answer in
-    let ins = input_rows k.list c.args.inputs.now c.check-list.new.inputs c.in-ok-n.n _ k.is k.input_count told.inputs in
-    let outs = gate_rows k.list c.args.gates.now c.check-list.new.gates c.in-ok-n.r _ k.is k.gate_count told.gates in
+    let told = c.in_ok-n.ensures in
+    let k = checked (length c.args.inputs.now) (length c.args.gates.now) c.args.text.now c.in_ok-n.n c.in_ok-n.r told.answer in
+    let ins = input_rows k.list c.args.inputs.now c.check_list.new.inputs c.in_ok-n.n _ k.is k.input_count told.inputs in
+    let outs = gate_rows k.list c.args.gates.now c.check_list.new.gates c.in_ok-n.r _ k.is k.gate_count told.gates in
     record {
       answer = sym (ap verdict k.is);
-      board = c.enter-list.ensures k.list k.listed ins outs c.clear.ensures ∙ sym (ap board_after k.is);
+      board = c.enter_list.ensures k.list k.listed ins outs c.clear.ensures ∙ sym (ap board_after k.is);
       inputs = told.inputs;
       gates = told.gates;
     }

@@ -17,8 +17,8 @@ loop-k-preserved c = λ b listed same start.
     let here : k < length b.gates = omega (arith, long, c.loop-k-test.true) in
     let at = gate_stands b c.args.text.now c.args.gates.now k _ listed.written same here in
     let law = All-get_or LawfulGate b.gates k _ here listed.lawful.each_gate in
-    let fields = c.gate-fields-start.ensures (gate_number b k) at.0 law at.1 in
-    gate_turn b k _ _ _ _ listed.lawful here (kind_here b c.args.gates.now k _ same here) fields.0 (c.loop-k.invariant b listed same start) c.enter-gate.ensures
+    let fields = c.gate_fields-start.ensures (gate_number b k) at.0 law at.1 in
+    gate_turn b k _ _ _ _ listed.lawful here (kind_here b c.args.gates.now k _ same here) fields.0 (c.loop-k.invariant b listed same start) c.enter_gate.ensures
 
 pub returns : goal.returns
 returns c = λ b listed same start.

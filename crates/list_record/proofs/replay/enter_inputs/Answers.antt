@@ -17,8 +17,8 @@ loop-k-preserved c = λ b listed same start.
     let here : k < length b.inputs = omega (arith, long, c.loop-k-test.true) in
     let at = input_stands b c.args.text.now c.args.inputs.now k _ listed.written same here in
     let law = All-get_or LawfulInput b.inputs k _ here listed.lawful.each_input in
-    let bits = c.input-bits-applied.ensures (input_number b k) at.0 law at.1 in
-    input_turn b k _ _ _ _ listed.lawful here bits.0 bits.1 (c.loop-k.invariant b listed same start) c.enter-input.ensures
+    let bits = c.input_bits-applied.ensures (input_number b k) at.0 law at.1 in
+    input_turn b k _ _ _ _ listed.lawful here bits.0 bits.1 (c.loop-k.invariant b listed same start) c.enter_input.ensures
 
 pub returns : goal.returns
 returns c = λ b listed same start.

@@ -24,8 +24,8 @@ returns-in-None c = λ b listed ins same within wire start.
     let few = c.in-None.ensures (gate_number b gate) at.0 law at.1 in
     absurd (omega arith)
 
-pub returns-in-None-find-source : goal.returns-in-None-find-source
-returns-in-None-find-source c = λ b listed ins same within wire start.
+pub returns-in-None-find_source : goal.returns-in-None-find_source
+returns-in-None-find_source c = λ b listed ins same within wire start.
     let gate = c.args.gate in
     let text = c.args.text.now in
     let long = ap length same ∙ length-laid write_gate gate_entry (gates_place b) b.gates in
@@ -33,12 +33,12 @@ returns-in-None-find-source c = λ b listed ins same within wire start.
     let at = gate_stands b text c.args.gates.now gate _ listed.written same here in
     let law = All-get_or LawfulGate b.gates gate _ here listed.lawful.each_gate in
     let is = pin_is _ c.args.pin c.in-Some.fields (gate_number b gate) at.0 c.in-Some.ensures law at.1 in
-    let found = names_here b text c.args.inputs.now c.args.gates.now c.in-Some.fields.source.now None listed.written ins same c.in-None-find-source.ensures in
+    let found = names_here b text c.args.inputs.now c.args.gates.now c.in-Some.fields.source.now None listed.written ins same c.in-None-find_source.ensures in
     let known = All-get_or (λ p. In p.source (names b)) (gate_number b gate).pins c.args.pin _ within (All-get_or _ b.gates gate _ here listed.lawful.sources) in
     absurd (not_missing b _ (subst (λ f. In f (names b)) (sym is.1.0) known) found)
 
-pub returns-in-Some-find-source : goal.returns-in-Some-find-source
-returns-in-Some-find-source c = λ b listed ins same within wire start.
+pub returns-in-Some-find_source : goal.returns-in-Some-find_source
+returns-in-Some-find_source c = λ b listed ins same within wire start.
     let gate = c.args.gate in
     let text = c.args.text.now in
     let long = ap length same ∙ length-laid write_gate gate_entry (gates_place b) b.gates in
@@ -46,5 +46,5 @@ returns-in-Some-find-source c = λ b listed ins same within wire start.
     let at = gate_stands b text c.args.gates.now gate _ listed.written same here in
     let law = All-get_or LawfulGate b.gates gate _ here listed.lawful.each_gate in
     let is = pin_is _ c.args.pin c.in-Some.fields (gate_number b gate) at.0 c.in-Some.ensures law at.1 in
-    let found = names_here b text c.args.inputs.now c.args.gates.now c.in-Some.fields.source.now (Some c.in-Some-find-source.source) listed.written ins same c.in-Some-find-source.ensures in
-    pin_turn b gate c.args.pin c.args.wire _ _ c.in-Some-find-source.source _ _ _ listed.lawful here within is.1.0 is.1.1 wire found c.signal.ensures start c.tie.ensures
+    let found = names_here b text c.args.inputs.now c.args.gates.now c.in-Some.fields.source.now (Some c.in-Some-find_source.source) listed.written ins same c.in-Some-find_source.ensures in
+    pin_turn b gate c.args.pin c.args.wire _ _ c.in-Some-find_source.source _ _ _ listed.lawful here within is.1.0 is.1.1 wire found c.signal.ensures start c.tie.ensures

@@ -16,9 +16,9 @@ loop-p-preserved c = λ b listed ins same first start.
     let here : gate < length b.gates = omega (arith, long, c.requires.there) in
     let at = gate_stands b c.args.text.now c.args.gates.now gate _ listed.written same here in
     let law = All-get_or LawfulGate b.gates gate _ here listed.lawful.each_gate in
-    let fields = c.gate-fields-pins.ensures (gate_number b gate) at.0 law at.1 in
+    let fields = c.gate_fields-pins.ensures (gate_number b gate) at.0 law at.1 in
     let within : c.loop-p.p < length (gate_number b gate).pins = omega (arith, fields.1, c.loop-p-test.true) in
-    c.join-pin.ensures b listed ins same within (ap (λ n. n + c.loop-p.p) first) (c.loop-p.invariant b listed ins same first start)
+    c.join_pin.ensures b listed ins same within (ap (λ n. n + c.loop-p.p) first) (c.loop-p.invariant b listed ins same first start)
 
 pub returns : goal.returns
 returns c = record {
@@ -29,7 +29,7 @@ returns c = record {
       let here : gate < length b.gates = omega (arith, long, c.requires.there) in
       let at = gate_stands b c.args.text.now c.args.gates.now gate _ listed.written same here in
       let law = All-get_or LawfulGate b.gates gate _ here listed.lawful.each_gate in
-      let fields = c.gate-fields-pins.ensures (gate_number b gate) at.0 law at.1 in
+      let fields = c.gate_fields-pins.ensures (gate_number b gate) at.0 law at.1 in
       ap (λ n. c.args.first + n) fields.1;
   after = λ b listed ins same first start.
       let gate = c.args.gate in
@@ -37,7 +37,7 @@ returns c = record {
       let here : gate < length b.gates = omega (arith, long, c.requires.there) in
       let at = gate_stands b c.args.text.now c.args.gates.now gate _ listed.written same here in
       let law = All-get_or LawfulGate b.gates gate _ here listed.lawful.each_gate in
-      let fields = c.gate-fields-pins.ensures (gate_number b gate) at.0 law at.1 in
+      let fields = c.gate_fields-pins.ensures (gate_number b gate) at.0 law at.1 in
       let done : c.loop-p.p ≡ length (gate_number b gate).pins = omega (arith, fields.1, c.loop-p-test.false) in
       c.loop-p.invariant b listed ins same first start ∙ ap (λ n. pins_joined b (pins_before b gate n)) done;
 }

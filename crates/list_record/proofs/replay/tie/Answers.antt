@@ -9,4 +9,4 @@ returns c = λ e₁ e₂.
     let w = c.args.wire in
     called (λ t. set_signal_stop t (signal.Wire w) c.args.start) (λ t. signal_set t (signal.Wire w) c.args.start) _ _ _
     (called (λ t. join_stop t c.args.gate c.args.pin c.args.source) (λ t. joined t c.args.gate c.args.pin c.args.source) _ _ _ refl c.join.ensures.after e₁)
-    c.set-signal.ensures.after e₂
+    c.set_signal.ensures.after e₂
