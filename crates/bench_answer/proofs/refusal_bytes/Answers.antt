@@ -6,5 +6,5 @@ use Rattle.bench_answer.proofs.refusal_bytes.Goals as goal
 pub returns : goal.returns
 returns c =
     text_refusal (refusal_number c.args.refusal) (refusal_line c.args.refusal) c.number-number.result c.line-line.result _ c.number-number.ensures c.line-line.ensures
-    (sym c.is-records.ensures ∙ c.if-is-records.false)
-    (ap vec_items c.into-bytes-2.ensures.value ∙ c.in-ok-text-line.ensures)
+    (sym c.is_records.ensures ∙ c.if-is_records.false)
+    (ap vec_items c.into_bytes-2.ensures.value ∙ c.in_ok-text_line.ensures)
