@@ -1,5 +1,5 @@
 -- The sheet of a record that was run fits the bench's buffer.
-use Rattle.std.proofs.Common.{◌≡◌, ℕ, ◌+◌, ◌*◌, ◌<◌, ◌≤◌, Bool, true, false, cond, not, eqb, ltb, List, [], ◌∷◌, ◌++◌, length, take, drop, is_some, IfOk, Some, None, Ok, Err, vec_items, codes, decimal, Option, Result, unwrap_or, sym, refl, ap, ◌∙◌, subst, arith}
+use Rattle.std.proofs.Common.{◌≡◌, ℕ, ◌≤◌, Bool, true, false, cond, eqb, List, [], ◌∷◌, ◌++◌, length, take, drop, is_some, IfOk, Some, None, Ok, Err, vec_items, codes, decimal, Option, Result, unwrap_or, sym, refl, ap, ◌∙◌, subst, arith}
 use Rattle.std.proofs.lemmas.Fmt.{length-decimal-le}
 use Rattle.std.proofs.lemmas.List.{take_at}
 use Rattle.std.proofs.lemmas.Bool.{cond-true, cond-false, le-ltb, not_from_false}
@@ -7,7 +7,6 @@ use Rattle.gates.specs.declared.Complement.{Complement}
 use Rattle.gates.specs.declared.Mark.{Mark}
 use Rattle.gates.specs.Told.{Stop, Told, answer, refused as stopped, told_by, left_by, first_stop}
 use Rattle.plain_gates.specs.declared.PlainGates.{PlainGates}
-use Rattle.circuit.specs.Circuits.{size}
 use Rattle.circuit.specs.Wiring.{first_unjoined}
 use Rattle.circuit.specs.Views.{circuit_of}
 use Rattle.sheet.specs.Sheets.{sheet}

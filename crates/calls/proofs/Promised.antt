@@ -8,7 +8,6 @@ use Rattle.gates.specs.declared.Mark.{Mark}
 use Rattle.gates.specs.Marks.{settled}
 use Rattle.gates.specs.Kinds.{Kind}
 use Rattle.gates.specs.Told.{Stop, Told, answer, refused, told_by, left_by, first_stop}
-use Rattle.circuit.specs.Circuits.{size}
 use Rattle.circuit.specs.Passes.{Run, FewSteps, open_count}
 use Rattle.circuit.proofs.Steps.{steps_few}
 use Rattle.circuit.specs.declared.Signal.{Signal}

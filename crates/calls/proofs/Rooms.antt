@@ -1,5 +1,5 @@
 -- How much room a sheet needs, and what is read of the page that it was written to.
-use Rattle.std.proofs.Common.{◌≡◌, ℕ, ◌+◌, ◌-◌, ◌*◌, ◌<◌, ◌≤◌, min, Bool, true, false, cond, not, ltb, List, [], ◌∷◌, ◌++◌, length, take, drop, is_some, Some, None, vec_items, decimal, Option, unwrap_or, sym, refl, ap, ◌∙◌, subst, ⊎_elim, arith}
+use Rattle.std.proofs.Common.{◌≡◌, ℕ, ◌-◌, ◌<◌, ◌≤◌, min, Bool, true, false, cond, not, ltb, List, [], ◌∷◌, length, take, drop, is_some, Some, None, vec_items, decimal, Option, unwrap_or, sym, refl, ap, ◌∙◌, subst, ⊎_elim, arith}
 use mathlib.Core.Bool.{false≢true}
 use Rattle.std.proofs.lemmas.List.{take_at}
 use Rattle.std.proofs.lemmas.Bool.{cases_lt, lt-ltb, le-ltb}
@@ -15,7 +15,7 @@ use Rattle.record.specs.declared.record.Record.{Record}
 use Rattle.record.specs.Boards.{Board}
 use Rattle.record.specs.Calls.{unless, sheet_stop, sheet_of}
 use Rattle.record.specs.Views.{board_of}
-use Rattle.calls.specs.Tellings.{Given, sheet}
+use Rattle.calls.specs.Tellings.{sheet}
 use Rattle.calls.proofs.Boards.{Sound, sound_of}
 
 two_digits : (n : ℕ) → n < 100 → length (decimal n) ≤ 2

@@ -5,7 +5,7 @@ use Rattle.gates.specs.declared.Mark.{Mark}
 use Rattle.gates.specs.Kinds.{Kind}
 use Rattle.gates.specs.Told.{Stop, Told, answer, refused}
 use Rattle.circuit.specs.declared.Signal.{Signal}
-use Rattle.circuit.specs.Circuits.{Circuit, Has, size}
+use Rattle.circuit.specs.Circuits.{Has, size}
 use Rattle.circuit.specs.Passes.{open_count, settled_count}
 use Rattle.races.specs.Races.{State, Stable, Race, Reachable, Outcome}
 use Rattle.races.specs.Exact.{Open, Exact}

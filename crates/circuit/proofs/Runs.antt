@@ -1,8 +1,6 @@
 -- Both passes end, at one place.
-use Rattle.std.proofs.Common.{◌≡◌, ℕ, zero, suc, ◌+◌, ◌<◌, ◌≤◌, Bool, true, false, ◌⊎◌, List, [], ◌∷◌, map, length, sym, refl, ap, ◌∙◌, subst, inl, inr, ⊎_elim, arith}
-use native.Mathlib.Decide.{ℕ_discrete}
+use Rattle.std.proofs.Common.{◌≡◌, ℕ, zero, suc, ◌<◌, ◌≤◌, List, [], ◌∷◌, map, length, sym, refl, ap, ◌∙◌, subst, arith}
 use lib.ListN.{length-map}
-use Rattle.std.proofs.lemmas.Bool.{cases_lt}
 use Rattle.gates.specs.declared.Mark.{Mark}
 use Rattle.gates.specs.declared.Mark.TheVariants.{Zero, One, Unknown}
 use Rattle.gates.specs.Marks.{settled}
@@ -10,7 +8,7 @@ use Rattle.gates.specs.Kinds.{Kind}
 use Rattle.circuit.specs.Circuits.{Circuit, size}
 use Rattle.circuit.specs.declared.passes.Pass.{Pass}
 use Rattle.circuit.specs.declared.passes.Pass.TheVariants.{First, Second}
-use Rattle.circuit.specs.Passes.{stepped, iterate, Ends, Shrinks, Run, RunExists, RunUnique}
+use Rattle.circuit.specs.Passes.{stepped, iterate, Ends, Shrinks, RunExists, RunUnique}
 use Rattle.circuit.proofs.Falls.{weight, total, falls, shrinks_on, shrinks_from, length-stepped}
 use Rattle.circuit.proofs.Steps.{clash}
 

@@ -1,5 +1,5 @@
 -- The passes take few steps.
-use Rattle.std.proofs.Common.{◌≡◌, ℕ, zero, suc, ◌+◌, ◌<◌, ◌≤◌, Bool, true, false, List, [], ◌∷◌, map, length, sym, refl, ap, ◌∙◌, subst, arith}
+use Rattle.std.proofs.Common.{◌≡◌, ℕ, zero, suc, ◌+◌, ◌<◌, ◌≤◌, List, [], ◌∷◌, map, length, sym, refl, ◌∙◌, subst, arith}
 use lib.ListN.{length-map}
 use Rattle.gates.specs.declared.Mark.{Mark}
 use Rattle.gates.specs.declared.Mark.TheVariants.{Zero, One, Unknown}
@@ -8,7 +8,7 @@ use Rattle.gates.specs.Kinds.{Kind}
 use Rattle.circuit.specs.Circuits.{Circuit, size}
 use Rattle.circuit.specs.declared.passes.Pass.{Pass}
 use Rattle.circuit.specs.declared.passes.Pass.TheVariants.{First, Second}
-use Rattle.circuit.specs.Passes.{stepped, iterate, Ends, Shrinks, open_count, settled_count, Run, FewSteps, StepsFew}
+use Rattle.circuit.specs.Passes.{stepped, iterate, Ends, Shrinks, open_count, settled_count, StepsFew}
 use Rattle.circuit.proofs.Falls.{weight, total, total_le, falls, shrinks_on, shrinks_from, length-stepped}
 
 open_first : (ms : List Mark) → open_count ms + total (weight First) ms ≡ length ms

@@ -1,12 +1,12 @@
 -- The first unjoined pin, searched gate by gate and pin by pin.
-use Rattle.std.proofs.Common.{◌≡◌, ℕ, zero, suc, ◌+◌, ◌-◌, ◌<◌, ◌≤◌, Bool, true, false, List, [], ◌∷◌, length, get_or, take, drop, is_some, Some, None, Option, sym, refl, ap, ◌∙◌, subst, ⊎_elim, true≢false, arith}
+use Rattle.std.proofs.Common.{◌≡◌, ℕ, zero, suc, ◌+◌, ◌-◌, ◌<◌, ◌≤◌, true, false, List, [], ◌∷◌, length, get_or, take, drop, is_some, Some, None, Option, sym, refl, ap, ◌∙◌, subst, ⊎_elim, true≢false, arith}
 use mathlib.Core.Bool.{false≢true}
 use Rattle.std.proofs.lemmas.Bool.{cases_lt}
 use Rattle.std.proofs.lemmas.List.{at_drop_more, get_or_read, at_drop_all, get_or-take, get_or-drop, length-take-le, length-drop}
 use Rattle.circuit.specs.declared.Gate.{Gate}
 use Rattle.circuit.specs.declared.Source.{Source}
-use Rattle.circuit.specs.Circuits.{Circuit, no_gate}
-use Rattle.circuit.specs.Wiring.{pin_total, Numbered, Joined, unjoined_pin, at_gate, unjoined_from, first_unjoined, pin_source, UnjoinedFirst, FirstUnjoinedSays, FirstUnjoinedExact}
+use Rattle.circuit.specs.Circuits.{no_gate}
+use Rattle.circuit.specs.Wiring.{pin_total, Numbered, unjoined_pin, at_gate, unjoined_from, UnjoinedFirst, FirstUnjoinedExact}
 use Rattle.circuit.proofs.Wired.{fits_at, fits}
 
 -- the sources of a gate's pins

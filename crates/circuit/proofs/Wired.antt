@@ -8,7 +8,7 @@ use Rattle.circuit.specs.declared.Source.TheVariants as source
 use Rattle.circuit.specs.declared.Signal.{Signal}
 use Rattle.circuit.specs.declared.Signal.TheVariants as signal
 use Rattle.circuit.specs.Circuits.{Circuit, no_gate, tapped, Has}
-use Rattle.circuit.specs.Changes.{source_of, has_input, has_gate}
+use Rattle.circuit.specs.Changes.{source_of}
 use Rattle.circuit.specs.Wiring.{pin_total, Numbered, Sourced}
 
 pub pin_total_at : (gs : List Gate) (g : ℕ) → g < length gs → pin_total (take g gs) + (get_or gs g no_gate).pins ≤ pin_total gs

@@ -1,5 +1,5 @@
 -- What may be added to a circuit, and what it then is.
-use Rattle.std.specs.Prelude.{ℕ, ◌+◌, Bool, true, false, cond, ◌&&◌, List, [], ◌∷◌, ◌++◌, length, replicate, is_some, Some, None, Option, nat_le, nat_lt, slice_index_or, slice_set}
+use Rattle.std.specs.Prelude.{ℕ, ◌+◌, Bool, false, cond, ◌&&◌, [], ◌∷◌, ◌++◌, length, replicate, is_some, Some, None, Option, nat_le, nat_lt, slice_index_or, slice_set}
 use Rattle.circuit.specs.declared.Source.{Source}
 use Rattle.circuit.specs.declared.Source.TheVariants as source
 use Rattle.circuit.specs.declared.Signal.{Signal}

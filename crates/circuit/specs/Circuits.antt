@@ -1,5 +1,5 @@
 -- A circuit, its signals in sheet order, and what each signal is driven to, for bits and for marks alike.
-use Rattle.std.specs.Prelude.{◌≡◌, ℕ, ◌+◌, ◌-◌, ◌<◌, Bool, false, cond, List, [], ◌∷◌, length, get_or, take, drop, Some, None, Option, nat_lt, slice_index_or}
+use Rattle.std.specs.Prelude.{ℕ, ◌+◌, ◌-◌, ◌<◌, Bool, false, cond, List, length, get_or, take, drop, Some, None, Option, nat_lt, slice_index_or}
 use Rattle.std.specs.Option.{unwrap_or}
 use Rattle.gates.specs.Kinds.{Kind, value_of}
 use Rattle.circuit.specs.declared.Gate.{Gate}

@@ -1,5 +1,5 @@
 -- How wires are numbered and joined: what every circuit keeps, and the first pin that is not joined yet.
-use Rattle.std.specs.Prelude.{◌≡◌, ℕ, suc, ◌+◌, ◌<◌, Bool, List, [], ◌∷◌, length, get_or, take, drop, Some, None, Option, ◌≢◌, slice_index_or}
+use Rattle.std.specs.Prelude.{◌≡◌, ℕ, suc, ◌+◌, ◌<◌, List, [], ◌∷◌, length, get_or, take, drop, Some, None, Option, ◌≢◌, slice_index_or}
 use Rattle.circuit.specs.declared.Gate.{Gate}
 use Rattle.circuit.specs.declared.Source.{Source}
 use Rattle.circuit.specs.declared.Source.TheVariants as source

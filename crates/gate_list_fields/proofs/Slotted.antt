@@ -1,6 +1,6 @@
 -- Slots, from what code found.
 use Rattle.std.proofs.Common.{◌≡◌, ℕ, List, ◌++◌, Some, None, sym, ap, ◌∙◌, subst}
-use Rattle.gate_list_format.specs.Slots.{End, Judged, fits, fault, verdict, field, behind, past, put, step, read, slot, line_after}
+use Rattle.gate_list_format.specs.Slots.{End, Judged, fits, fault, verdict, field, behind, past, put, step, read, line_after}
 use Rattle.gate_list_format.proofs.Slotted.{field_behind, past_some}
 use Rattle.gate_list_fields.specs.Taken.{Passed, Failed}
 

@@ -1,5 +1,5 @@
 -- Reading a form accepts exactly what has it.
-use Rattle.std.proofs.Common.{◌≡◌, ℕ, ◌+◌, Bool, true, false, cond, eqb, List, [], ◌∷◌, ◌++◌, Some, None, Option, sym, refl, ap, ◌∙◌, subst, arith}
+use Rattle.std.proofs.Common.{◌≡◌, ℕ, Bool, true, false, cond, eqb, List, [], ◌∷◌, ◌++◌, Some, None, Option, sym, refl, ap, ◌∙◌, subst, arith}
 use Rattle.std.proofs.lemmas.Bool.{and_parts, and_from, cond-true, eqb-true}
 use Rattle.gate_list_format.specs.Slots.{End, space, newline, byte, solid, solids, field, behind, put, Judged, fits, fault, accepted, Form, ends, slot, verdict, past, line_after, step, read}
 

@@ -1,5 +1,5 @@
 -- A refusal is the first fault.
-use Rattle.std.proofs.Common.{◌≡◌, ℕ, ◌+◌, true, eqb, ◌⊎◌, ◌↔◌, List, [], ◌∷◌, ◌++◌, Some, None, Option, sym, refl, ap, ◌∙◌, inl, inr, ⊎_elim, arith}
+use Rattle.std.proofs.Common.{◌≡◌, ℕ, ◌+◌, true, eqb, ◌↔◌, List, [], ◌∷◌, ◌++◌, Some, None, Option, sym, refl, ap, ◌∙◌, inl, inr, ⊎_elim, arith}
 use Rattle.std.proofs.lemmas.List.{append_assoc, append-nil}
 use Rattle.std.proofs.lemmas.Bool.{and_parts, cond-false, or_parts, not-true}
 use Rattle.gate_list_format.specs.Slots.{End, space, newline, byte, solid, solids, field, behind, put, Judged, fits, fault, Outcome, refused, Form, ends, slot, verdict, past, line_after, step, read, Passes, Faulty, newlines, Stopped, at, last}

@@ -3,7 +3,7 @@ use Rattle.std.proofs.Common.{◌≡◌, ℕ, ◌+◌, ◌-◌, ◌<◌, ◌≤�
 use Rattle.std.specs.List.{AllByRecursion as All}
 use Rattle.std.proofs.ByRecursion.{All-drop}
 use Rattle.std.proofs.lemmas.List.{drop_more}
-use Rattle.gate_list_format.specs.Slots.{End, Form, slot, ends, read, accepted, refused, space, newline, put, field, behind, past, fits, fault, step, verdict}
+use Rattle.gate_list_format.specs.Slots.{End, Form, slot, ends, read, accepted, refused, space, newline, put, behind, past, fault, step, verdict}
 use Rattle.gate_list_format.specs.Lists.{GateList, Input, Pin, Gate, LawfulInput, LawfulPin, LawfulGate, pin_end, write_input, write_gate, write_pins}
 use Rattle.gate_list_format.specs.Reading.{input_form, gate_form}
 use Rattle.gate_list_format.proofs.Judges.{pin_range, name_field}

@@ -1,5 +1,5 @@
 -- The exact extension of a function that takes its bits one by one.
-use Rattle.std.proofs.Common.{◌≡◌, Bool, true, false, List, [], ◌∷◌, ◌++◌, map, sym, refl, ap, ◌∙◌}
+use Rattle.std.proofs.Common.{◌≡◌, Bool, true, false, List, [], ◌∷◌, ◌++◌, map, refl, ap, ◌∙◌}
 use Rattle.std.proofs.lemmas.List.{map-append}
 use Rattle.gates.specs.declared.Mark.{Mark}
 use Rattle.gates.specs.declared.Mark.TheVariants.{Zero, One, Unknown}

@@ -1,5 +1,5 @@
 -- What a gate library means: a list of kinds, each a pin count and a Boolean function of its pins.
-use Rattle.std.specs.Prelude.{◌≡◌, ℕ, ◌≤◌, Bool, cond, not, List, [], ◌∷◌, length, take, Some, None, Option, ◌==◌}
+use Rattle.std.specs.Prelude.{ℕ, ◌≤◌, Bool, cond, not, List, [], ◌∷◌, length, take, Some, None, Option, ◌==◌}
 use Rattle.std.specs.Option.{option_map}
 use Rattle.std.specs.List.{slice_get, AllByRecursion as All}
 use Rattle.gates.specs.declared.Mark.{Mark}

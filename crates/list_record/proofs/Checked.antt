@@ -2,7 +2,7 @@
 use Rattle.std.proofs.Common.{◌≡◌, ℕ, ◌≤◌, List, length, take, sym, refl, ap, ◌∙◌, arith}
 use Rattle.std.proofs.lemmas.List.{take_at}
 use Rattle.gate_list_format.specs.Slots.{Outcome, accepted, refused}
-use Rattle.gate_list_format.specs.Lists.{GateList, Lawful, written, write_input, write_gate}
+use Rattle.gate_list_format.specs.Lists.{GateList, write_input, write_gate}
 use Rattle.gate_list_format.specs.Places.{inputs_place, gates_place}
 use Rattle.gate_list_format.specs.Reading.{admitted}
 use Rattle.gate_list_format.proofs.Admitted.{accepts}
@@ -10,8 +10,6 @@ use Rattle.gate_list_format.proofs.Laid.{length-laid}
 use Rattle.gate_list_names.specs.declared.InputEntry.{InputEntry}
 use Rattle.gate_list_names.specs.declared.GateEntry.{GateEntry}
 use Rattle.gate_list.specs.Tables.{counts, input_entry, gate_entry, input_entries, gate_entries, input_table, gate_table}
-use Rattle.list_record.specs.ListBoards.{board_after}
-use Rattle.list_record.specs.Entering.{verdict}
 use Rattle.list_record.specs.Replay.{Listed}
 
 pub record Checked (inputs gates : ℕ) (text : List ℕ) (n r : ℕ) : Type 0 where

@@ -1,6 +1,6 @@
 -- Where the lines of a list stand, and what their entries give.
-use Rattle.std.proofs.Common.{◌≡◌, ℕ, zero, suc, ◌+◌, ◌<◌, List, [], ◌∷◌, ◌++◌, length, get_or, drop, codes, sym, refl, ap, ◌∙◌, subst, arith}
-use Rattle.gate_list_format.specs.Lists.{GateList, Input, Gate, kind_of, write_heading, write_input, write_gate, writes, written}
+use Rattle.std.proofs.Common.{◌≡◌, ℕ, zero, suc, ◌+◌, ◌<◌, List, [], ◌∷◌, length, get_or, drop, codes, sym, refl, ap, ◌∙◌, subst, arith}
+use Rattle.gate_list_format.specs.Lists.{GateList, Gate, kind_of, write_heading, write_input, write_gate, writes, written}
 use Rattle.gate_list_format.specs.Places.{laid, inputs_place, gates_place}
 use Rattle.gate_list_format.proofs.Laid.{laid_here, fronts, input_onto, gate_onto}
 use Rattle.gate_list_names.specs.declared.InputEntry.{InputEntry}

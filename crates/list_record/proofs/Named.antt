@@ -1,17 +1,14 @@
 -- The source that a name has, as a search finds it.
-use Rattle.std.proofs.Common.{◌≡◌, ℕ, zero, suc, ◌+◌, ◌<◌, Bool, true, false, cond, List, [], ◌∷◌, ◌++◌, map, length, get_or, is_some, Some, None, Option, sym, refl, ap, ◌∙◌, subst, arith}
+use Rattle.std.proofs.Common.{◌≡◌, ℕ, zero, suc, ◌<◌, Bool, true, false, List, [], ◌∷◌, length, is_some, Some, None, Option, sym, refl, ap, ◌∙◌, subst, arith}
 use Rattle.std.specs.Option.{option_map}
 use Rattle.std.specs.Str.{bytes_eq}
 use Rattle.std.proofs.lemmas.Slice.Eq.{bytes_eq-Decides}
 use Rattle.std.proofs.lemmas.List.{length-map}
 use Rattle.std.proofs.lemmas.Bool.{cond-true, cond-false, lt-ltb}
-use Rattle.circuit.specs.declared.Source as circuit
 use Rattle.circuit.specs.declared.Source.TheVariants as source
-use Rattle.circuit.specs.declared.Signal.{Signal}
 use Rattle.circuit.specs.Circuits.{Circuit}
 use Rattle.circuit.specs.Changes.{source_of}
 use Rattle.gate_list_format.specs.Lists.{GateList, In, names, input_names, gate_names, written}
-use Rattle.gate_list_format.specs.Reading.{member}
 use Rattle.gate_list_format.proofs.Judges.{in_member}
 use Rattle.gate_list_names.specs.declared.InputEntry.{InputEntry}
 use Rattle.gate_list_names.specs.declared.GateEntry.{GateEntry}

@@ -1,19 +1,18 @@
 -- One pin more on a board.
-use Rattle.std.proofs.Common.{◌≡◌, ℕ, zero, suc, ◌+◌, ◌-◌, ◌<◌, ◌≤◌, Bool, true, false, cond, ◌&&◌, ltb, leb, List, [], ◌∷◌, ◌++◌, map, length, get_or, take, drop, set, replicate, is_some, Some, None, Option, sym, refl, ap, ◌∙◌, subst, arith}
-use Rattle.std.proofs.lemmas.List.{append-nil, append_assoc, length-append, length-map, length-replicate, length_push, length-set, length-take-le, map_push, set_at, take_more, take_all}
+use Rattle.std.proofs.Common.{◌≡◌, ℕ, zero, suc, ◌+◌, ◌-◌, ◌<◌, ◌≤◌, true, false, ltb, List, [], ◌∷◌, ◌++◌, length, get_or, take, set, replicate, is_some, None, sym, refl, ap, ◌∙◌, arith}
+use Rattle.std.proofs.lemmas.List.{append-nil, append_assoc, length-append, length-map, length_push, length-take-le, map_push, set_at, take_more, take_all}
 use Rattle.std.proofs.lemmas.Bool.{lt-ltb, and_from}
 use Rattle.circuit.specs.declared.Gate as circuit
-use Rattle.circuit.specs.declared.Source.{Source}
 use Rattle.circuit.specs.declared.Signal.{Signal}
 use Rattle.circuit.specs.declared.Signal.TheVariants as signal
 use Rattle.circuit.specs.Circuits.{no_gate}
 use Rattle.circuit.specs.Changes.{source_of}
 use Rattle.record.specs.Boards.{Board}
 use Rattle.record.specs.Calls.{bit_of, join_stop, joined, set_signal_stop, signal_set}
-use Rattle.gate_list_format.specs.Lists.{GateList, Input, Gate, Pin, LawfulPin, wires}
+use Rattle.gate_list_format.specs.Lists.{GateList, Gate, Pin, LawfulPin, wires}
 use Rattle.gate_list.specs.Laws.{gate_number}
 use Rattle.gate_list_lookup.specs.Lookup.{pin_number}
-use Rattle.list_record.specs.ListBoards.{list_kinds, applied_values, input_starts, gate_starts, pin_starts, pins_in, gate_row, gate_rows, pin_sources, source_named, board_of_list}
+use Rattle.list_record.specs.ListBoards.{applied_values, input_starts, gate_starts, pin_starts, pins_in, gate_row, gate_rows, pin_sources, source_named, board_of_list}
 use Rattle.list_record.specs.Replay.{entered, pins_joined, pins_before}
 use Rattle.list_record.proofs.Steps.{passed, passed_two, board, regroup, length_rows}
 

@@ -1,18 +1,17 @@
 -- One input or one gate more on a board.
-use Rattle.std.proofs.Common.{◌≡◌, ℕ, suc, ◌+◌, ◌<◌, ◌≤◌, Bool, true, false, cond, ◌&&◌, ltb, leb, List, [], ◌∷◌, ◌++◌, map, length, get_or, take, drop, set, replicate, is_some, Some, None, Option, unwrap_or, sym, refl, ap, ◌∙◌, subst, arith}
+use Rattle.std.proofs.Common.{◌≡◌, ℕ, suc, ◌+◌, ◌<◌, ◌≤◌, Bool, true, false, List, [], ◌∷◌, ◌++◌, length, drop, set, replicate, is_some, Some, None, Option, unwrap_or, sym, refl, ap, ◌∙◌, arith}
 use Rattle.std.specs.List.{insert}
 use Rattle.std.proofs.lemmas.List.{append-nil, append_assoc, length-append, length-map, length-replicate, length_push, replicate-append-replicate, map_push, set_at, take_at, drop_at}
 use Rattle.std.proofs.lemmas.Bool.{lt-ltb, le-leb, and_from}
 use Rattle.gates.specs.Kinds.{pins_of}
-use Rattle.gates.specs.Told.{Stop, stop, first_stop}
+use Rattle.gates.specs.Told.{first_stop}
 use Rattle.circuit.specs.declared.Gate as circuit
 use Rattle.circuit.specs.declared.Source.{Source}
 use Rattle.circuit.specs.declared.Signal.TheVariants as signal
-use Rattle.circuit.specs.Changes.{gate_fits}
 use Rattle.record.specs.Boards.{Board}
-use Rattle.record.specs.Calls.{unless, bit_of, is_bit, pin_count, add_input_stop, input_added, add_gate_stop, gate_added, set_input_stop, input_set, set_signal_stop, signal_set}
-use Rattle.gate_list_format.specs.Lists.{GateList, Input, Gate, Pin, LawfulInput, LawfulGate, kind_of, wires}
-use Rattle.list_record.specs.ListBoards.{list_kinds, applied_values, input_starts, gate_starts, pin_starts, gate_row, gate_rows, pin_sources}
+use Rattle.record.specs.Calls.{unless, bit_of, pin_count, add_input_stop, input_added, add_gate_stop, gate_added, set_input_stop, input_set, set_signal_stop, signal_set}
+use Rattle.gate_list_format.specs.Lists.{GateList, Input, Gate, LawfulInput, LawfulGate, kind_of, wires}
+use Rattle.list_record.specs.ListBoards.{list_kinds, applied_values, input_starts, gate_starts, gate_row, gate_rows}
 use Rattle.list_record.specs.Replay.{entered}
 use Rattle.list_record.proofs.KindPins.{kind_pins}
 

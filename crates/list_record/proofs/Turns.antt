@@ -1,10 +1,10 @@
 -- One line or one pin more of a list.
-use Rattle.std.proofs.Common.{◌≡◌, ℕ, suc, ◌+◌, ◌-◌, ◌<◌, ◌≤◌, List, [], ◌∷◌, ◌++◌, length, get_or, take, is_some, Some, None, sym, refl, ap, ◌∙◌, subst, arith}
+use Rattle.std.proofs.Common.{◌≡◌, ℕ, suc, ◌+◌, ◌-◌, ◌<◌, ◌≤◌, List, [], ◌∷◌, ◌++◌, length, take, Some, sym, ap, ◌∙◌, subst, arith}
 use Rattle.std.proofs.ByRecursion.{All-get_or}
 use Rattle.std.proofs.lemmas.List.{length-take-le, length-map, length_push, take_more}
 use Rattle.circuit.specs.declared.Signal.{Signal}
 use Rattle.record.specs.Boards.{Board}
-use Rattle.gate_list_format.specs.Lists.{GateList, Input, Gate, Pin, Lawful, LawfulInput, LawfulGate, LawfulPin, In, names, kind_of, wires, input_names, gate_names}
+use Rattle.gate_list_format.specs.Lists.{GateList, Input, Gate, Lawful, LawfulInput, LawfulGate, LawfulPin, kind_of, wires, input_names, gate_names}
 use Rattle.gate_list.specs.Laws.{input_number, gate_number}
 use Rattle.gate_list_lookup.specs.Lookup.{pin_number}
 use Rattle.gate_list_names.specs.declared.Source.{Source}

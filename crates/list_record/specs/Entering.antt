@@ -1,5 +1,5 @@
 -- What is answered to a gate list, and the steps by which it goes onto a record.
-use Rattle.std.specs.Prelude.{◌≡◌, ℕ, List, Ok, Err, Result}
+use Rattle.std.specs.Prelude.{Ok, Err, Result}
 use Rattle.gates.specs.declared.Complement.{Complement}
 use Rattle.plain_gates.specs.declared.PlainGates.{PlainGates}
 use Rattle.record.specs.declared.record.Record.{Record}

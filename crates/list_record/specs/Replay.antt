@@ -1,14 +1,14 @@
 -- How far a list is entered, and what each part of the replay does.
-use Rattle.std.specs.Prelude.{◌≡◌, ℕ, ◌+◌, ◌-◌, ◌<◌, Bool, false, List, [], ◌++◌, length, get_or, take, drop, replicate, None}
+use Rattle.std.specs.Prelude.{◌≡◌, ℕ, ◌-◌, false, List, [], ◌++◌, length, take, replicate, None}
 use Rattle.circuit.specs.declared.Signal.{Signal}
 use Rattle.circuit.specs.declared.Signal.TheVariants as signal
-use Rattle.record.specs.Boards.{Board, opened}
+use Rattle.record.specs.Boards.{Board}
 use Rattle.record.specs.Calls.{add_input_stop, input_added, add_gate_stop, gate_added, join_stop, joined, set_input_stop, input_set, set_signal_stop, signal_set}
 use Rattle.gate_list_format.specs.Lists.{GateList, Input, Gate, Pin, Lawful, LawfulInput, LawfulGate, wires, write_input, write_gate, written}
 use Rattle.gate_list_names.specs.declared.Source.{Source}
 use Rattle.gate_list_names.specs.declared.Source.TheVariants as named
 use Rattle.gate_list.specs.Laws.{gate_number}
-use Rattle.list_record.specs.ListBoards.{list_kinds, applied_values, input_starts, gate_starts, pin_starts, pins_in, gate_rows, pin_sources, board_of_list}
+use Rattle.list_record.specs.ListBoards.{list_kinds, applied_values, input_starts, gate_starts, pin_starts, pins_in, gate_rows, pin_sources}
 
 -- the text writes a lawful list
 pub record Listed (b : GateList) (text : List ℕ) : Type 0 where

@@ -1,10 +1,10 @@
 -- Walks, rounds and outcomes of the lists are those of the network.
-use Rattle.std.proofs.Common.{◌≡◌, ◌⊎◌, List, [], ◌∷◌, length, sym, refl, ap, ◌∙◌, subst, inl, inr, ⊎_elim}
+use Rattle.std.proofs.Common.{◌≡◌, List, [], ◌∷◌, length, sym, refl, ap, ◌∙◌, subst, inl, inr, ⊎_elim}
 use mathlib.Core.Path.{subst_refl, path_j}
 use Rattle.gates.specs.Kinds.{Kind}
 use Rattle.circuit.specs.Circuits.{Circuit}
 use Rattle.circuit.specs.Wiring.{Wired, Joined}
-use Rattle.races.specs.Races.{State, value, Among, last, Stable, Step, Walk, Reachable, Round, states, Transient, Outcome}
+use Rattle.races.specs.Races.{State, Among, last, Step, Walk, Reachable, Round, states, Transient, Outcome}
 use Rattle.races.proofs.Named.{network, named, numbered, has}
 use Rattle.races.proofs.States.{state, Long, value_is, value_at, stable_up, stable_at, listed, listed_long, state_same, step_long, step_up, step_down}
 use Rattle.races.proofs.network.Bits.{by_bit}

@@ -1,5 +1,5 @@
 -- The tests behind an answer, and what an accepted call leaves.
-use Rattle.std.proofs.Common.{◌≡◌, ℕ, ◌+◌, ◌≤◌, Bool, true, false, cond, List, [], ◌∷◌, ◌++◌, length, replicate, Some, None, Option, sym, refl, ap, ◌∙◌, arith}
+use Rattle.std.proofs.Common.{◌≡◌, ℕ, ◌+◌, ◌≤◌, Bool, true, false, cond, [], ◌∷◌, length, replicate, Some, None, Option, refl, arith}
 use Rattle.std.proofs.lemmas.List.{length-append, length_push, length-replicate}
 use Rattle.circuit.specs.declared.Source.{Source}
 use Rattle.circuit.specs.Circuits.{Circuit, size}

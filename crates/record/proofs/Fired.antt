@@ -6,7 +6,7 @@ use Rattle.std.proofs.ByRecursion.{All-weaker}
 use Rattle.std.proofs.lemmas.List.{at_drop_more, take_more}
 use Rattle.std.proofs.lemmas.Bool.{lt-ltb, ltb-true, eqb-true, eq-eqb}
 use Rattle.gates.specs.declared.Mark.{Mark}
-use Rattle.gates.specs.Told.{Stop, Told, answer, refused, first_stop, told_by, left_by}
+use Rattle.gates.specs.Told.{Stop, answer, refused, first_stop, told_by, left_by}
 use Rattle.circuit.specs.declared.Signal.{Signal}
 use Rattle.circuit.specs.declared.Signal.TheVariants as signal
 use Rattle.circuit.specs.contracts.SignalPartialEq.TheImpl.{ghosts}

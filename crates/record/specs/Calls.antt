@@ -1,14 +1,14 @@
 -- Each call on a board: the checks that may stop it, in order, and what it does otherwise.
-use Rattle.std.specs.Prelude.{ℕ, ◌+◌, Bool, true, false, cond, not, List, [], ◌∷◌, ◌++◌, length, set, replicate, is_some, Some, None, Option, ◌==◌, nat_lt, slice_index_or, slice_set}
+use Rattle.std.specs.Prelude.{ℕ, ◌+◌, Bool, false, cond, not, List, [], ◌∷◌, ◌++◌, length, replicate, is_some, Some, None, Option, ◌==◌, nat_lt, slice_index_or, slice_set}
 use Rattle.std.specs.Bool.{beq}
 use Rattle.std.specs.List.{insert}
 use Rattle.std.specs.Option.{unwrap_or}
 use Rattle.gates.specs.declared.Mark.{Mark}
 use Rattle.gates.specs.declared.Mark.TheVariants.{Zero}
-use Rattle.gates.specs.Kinds.{Kind, pins_of}
+use Rattle.gates.specs.Kinds.{pins_of}
 use Rattle.gates.specs.Told.{Stop, stop, first_stop}
 use Rattle.circuit.specs.declared.Signal.{Signal}
-use Rattle.circuit.specs.Circuits.{Circuit, place, excitation}
+use Rattle.circuit.specs.Circuits.{place, excitation}
 use Rattle.circuit.specs.Changes.{input_fits, with_input, gate_fits, with_gate, join_fits, with_joined, has_input, has_signal, with_applied}
 use Rattle.circuit.specs.Wiring.{first_unjoined}
 use Rattle.sheet.specs.Sheets.{sheet}

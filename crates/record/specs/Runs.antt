@@ -8,7 +8,6 @@ use Rattle.circuit.specs.Passes.{Run, FewSteps, open_count}
 use Rattle.races.specs.Races.{State, Outcome}
 use Rattle.races.specs.Exact.{Exact}
 use Rattle.record.specs.Boards.{Board, marked}
-use Rattle.record.specs.Calls.{run_stop}
 
 -- both passes were run on the board
 pub record Ran (old : Board) (told : Told (ℕ × ℕ × ℕ)) (new : Board) : Type 0 where

@@ -8,11 +8,11 @@ use Rattle.gates.specs.declared.Mark.TheVariants.{Zero, One, Unknown}
 use Rattle.gates.specs.Marks.{settled}
 use Rattle.plain_gates.specs.Plain.{plain}
 use Rattle.circuit.specs.declared.passes.Pass.TheVariants.{First, Second}
-use Rattle.circuit.specs.Passes.{stepped, iterate, Ends, Run, open_count}
+use Rattle.circuit.specs.Passes.{stepped, iterate, Ends, Run}
 use Rattle.sheet.specs.Sheets.{sheet}
 use Rattle.sheet.proofs.Sheets.{sheet_length}
 use Rattle.sheet.proofs.Writes.{digits_one}
-use Rattle.worked_boards.specs.Cases.{CircuitCase, CircuitAsSaid, bench_kinds}
+use Rattle.worked_boards.specs.Cases.{CircuitCase, bench_kinds}
 use Rattle.worked_boards.specs.Boards.{empty_board, rising_input, inverter_ring, resting_buffer_ring, unsettled_buffer_ring, latch_released, latch_kept_set, xor_of_one_input, BoardsAsSaid}
 
 abbrev alike : Mark → Mark → Bool

@@ -1,4 +1,4 @@
-use Rattle.std.proofs.Common.{◌≡◌, vec_items}
+use Rattle.std.proofs.Common.{vec_items}
 use Rattle.gate_list.specs.Refusals.{refusal_number, refusal_line}
 use Rattle.list_record.specs.Entering.{list_board}
 use Rattle.bench_answer.specs.BenchBytes.{BenchBytes}

@@ -1,4 +1,4 @@
-use Rattle.std.proofs.Common.{◌≡◌, vec_items, sym, ap, ◌∙◌}
+use Rattle.std.proofs.Common.{vec_items, sym, ap, ◌∙◌}
 use Rattle.gate_list.specs.Refusals.{refusal_number, refusal_line}
 use Rattle.bench_answer.proofs.Sheeting.{text_refusal}
 use Rattle.bench_answer.proofs.refusal_bytes.Goals as goal

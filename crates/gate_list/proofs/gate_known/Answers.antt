@@ -1,4 +1,4 @@
-use Rattle.std.proofs.Common.{◌+◌, ◌++◌, drop, Some, None, arith}
+use Rattle.std.proofs.Common.{◌++◌, drop, Some, None, arith}
 use Rattle.gate_list_names.specs.Names.{input_names_in, gate_names_in}
 use Rattle.gate_list_names.proofs.Found.{source_member}
 use Rattle.gate_list_lookup.proofs.Again.{pin_is}

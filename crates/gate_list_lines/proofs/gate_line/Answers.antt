@@ -1,4 +1,4 @@
-use Rattle.std.proofs.Common.{◌+◌, ◌++◌, sym, refl, ap, ◌∙◌, arith}
+use Rattle.std.proofs.Common.{◌++◌, sym, refl, ap, ◌∙◌, arith}
 use Rattle.std.proofs.lemmas.Result.{err_from_is_err_and}
 use Rattle.gate_list_format.specs.Lists.{kind_of}
 use Rattle.gate_list_format.proofs.Passed.{gate₁, gate₂, gate₃, gate₄, gate₅}

@@ -1,8 +1,8 @@
-use Rattle.std.proofs.Common.{◌≡◌, ◌≤◌, length, sym, ap, ◌∙◌, arith}
+use Rattle.std.proofs.Common.{length, sym, ap, ◌∙◌, arith}
 use Rattle.std.proofs.lemmas.List.{length-take-le}
 use Rattle.list_record.specs.ListBoards.{board_after}
 use Rattle.list_record.specs.Entering.{verdict}
-use Rattle.list_record.proofs.Checked.{Checked, checked, input_rows, gate_rows}
+use Rattle.list_record.proofs.Checked.{checked, input_rows, gate_rows}
 use Rattle.list_record.proofs.read_list.Goals as goal
 
 pub slice_bounds-enter_list-end : goal.slice_bounds-enter_list-end

@@ -2,7 +2,6 @@
 use Rattle.std.proofs.Common.{◌≡◌, ℕ, zero, suc, Bool, not, ◌⊎◌, sym, ap, ◌∙◌, subst, inl, inr}
 use mathlib.Core.Bool.{Bool-discrete}
 use Rattle.gates.specs.declared.Mark.{Mark}
-use Rattle.gates.specs.Marks.{settled}
 use Rattle.races.proofs.network.Networks.{Network, State, Signal, excitation}
 use Rattle.races.proofs.network.Races.{race, rest, Walk, stay, step, On, turn, Outcome}
 use Rattle.races.proofs.network.Passes.{first, FirstEnds, second}

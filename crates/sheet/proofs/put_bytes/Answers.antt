@@ -1,4 +1,4 @@
-use Rattle.std.proofs.Common.{◌≡◌, [], ◌∷◌, length, take, sym, subst, arith, length-take}
+use Rattle.std.proofs.Common.{take, sym, subst, arith, length-take}
 use Rattle.std.proofs.lemmas.List.{take_all, take_more}
 use Rattle.sheet.specs.Writing.{Wrote}
 use Rattle.sheet.proofs.Writes.{wrote_none, wrote_then}

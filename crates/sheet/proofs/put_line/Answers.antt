@@ -1,4 +1,4 @@
-use Rattle.std.proofs.Common.{◌≡◌, ℕ, ◌+◌, List, [], ◌∷◌, set, sym, refl, ap, ◌∙◌, subst}
+use Rattle.std.proofs.Common.{ℕ, ◌+◌, List, [], ◌∷◌, set, refl, ap, ◌∙◌, subst}
 use Rattle.gates.specs.Marks.{mark_symbol}
 use Rattle.sheet.specs.Writing.{Wrote}
 use Rattle.sheet.proofs.Writes.{wrote_three}

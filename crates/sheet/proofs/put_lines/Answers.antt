@@ -1,7 +1,5 @@
-use Rattle.std.proofs.Common.{◌≡◌, ℕ, ◌+◌, ◌*◌, ◌<◌, ◌≤◌, [], ◌∷◌, ◌++◌, length, get_or, take, sym, refl, ap, ◌∙◌, subst, append_assoc, arith, length-take}
+use Rattle.std.proofs.Common.{take, sym, ap, ◌∙◌, subst, arith, length-take}
 use Rattle.std.proofs.lemmas.List.{take_all}
-use Rattle.gates.specs.declared.Mark.TheVariants.{Zero}
-use Rattle.gates.specs.Marks.{mark_symbol}
 use Rattle.sheet.specs.Sheets.{lines}
 use Rattle.sheet.specs.Writing.{Wrote}
 use Rattle.sheet.proofs.Writes.{wrote_none, wrote_then, lines_more, length-lines}

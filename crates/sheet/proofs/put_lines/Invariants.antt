@@ -1,4 +1,4 @@
-use Rattle.std.proofs.Common.{◌≡◌, ◌+◌, ◌*◌, length, take}
+use Rattle.std.proofs.Common.{◌≡◌, ◌+◌, ◌*◌, take}
 use Rattle.sheet.specs.Sheets.{lines}
 use Rattle.sheet.specs.Writing.{Wrote}
 use Rattle.sheet.proofs.put_lines.Given as goal

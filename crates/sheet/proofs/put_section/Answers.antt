@@ -1,6 +1,6 @@
-use Rattle.std.proofs.Common.{◌≡◌, ℕ, ◌+◌, [], ◌∷◌, ◌++◌, length, decimal, refl, arith}
-use Rattle.sheet.specs.Sheets.{lines, section}
-use Rattle.sheet.proofs.Writes.{wrote_then, length-lines}
+use Rattle.std.proofs.Common.{[], ◌∷◌, ◌++◌, length, decimal, refl, arith}
+use Rattle.sheet.specs.Sheets.{lines}
+use Rattle.sheet.proofs.Writes.{wrote_then}
 use Rattle.sheet.proofs.Sheets.{length-section}
 use Rattle.sheet.proofs.put_section.Goals as goal
 

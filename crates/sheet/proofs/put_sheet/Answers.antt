@@ -1,4 +1,4 @@
-use Rattle.std.proofs.Common.{◌≡◌, ℕ, ◌+◌, ◌-◌, ◌≤◌, length, codes, sym, refl, ◌∙◌, subst, ap₂, arith}
+use Rattle.std.proofs.Common.{◌+◌, ◌-◌, ◌≤◌, length, codes, sym, refl, ◌∙◌, subst, ap₂, arith}
 use Rattle.sheet.specs.Sheets.{section, sheet}
 use Rattle.sheet.proofs.Sheets.{part_length, inputs_part, gates_part, wires_part, sheet_end, sheet_wrote, room_one, room_two, room_three}
 use Rattle.sheet.proofs.put_sheet.Goals as goal

@@ -1,4 +1,4 @@
-use Rattle.std.proofs.Common.{◌≡◌, ℕ, ◌+◌, ◌-◌, ◌*◌, ◌≤◌, length, decimal, sym, refl, subst, arith}
+use Rattle.std.proofs.Common.{◌-◌, length, refl, arith}
 use Rattle.sheet.specs.Sheets.{sheet, Sheeted}
 use Rattle.sheet.proofs.Sheets.{sheet_length}
 use Rattle.sheet.proofs.Writes.{wrote_start}

@@ -1,4 +1,4 @@
-use Rattle.std.proofs.Common.{◌≡◌, length, sym, ap, ◌∙◌, subst, arith}
+use Rattle.std.proofs.Common.{sym, subst, arith}
 use Rattle.circuit.specs.Views.{circuit_of}
 use Rattle.circuit.specs.Passes.{Shrinks}
 use Rattle.circuit.proofs.Falls.{shrinks_from}

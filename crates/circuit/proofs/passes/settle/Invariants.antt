@@ -1,6 +1,5 @@
 use Rattle.std.proofs.Common.{◌≡◌, ℕ, ◌+◌, ◌<◌, ◌≤◌, length}
 use Rattle.circuit.specs.Views.{circuit_of}
-use Rattle.circuit.specs.Circuits.{size}
 use Rattle.circuit.specs.declared.passes.Pass.TheVariants.{Second}
 use Rattle.circuit.specs.Passes.{stepped, iterate, Shrinks}
 use Rattle.circuit.proofs.Falls.{weight, total}

@@ -1,4 +1,4 @@
-use Rattle.std.proofs.Common.{◌≡◌, ◌<◌, false, map, length, get_or, sym, ap, ◌∙◌, arith}
+use Rattle.std.proofs.Common.{◌≡◌, false, map, length, sym, ◌∙◌, arith}
 use lib.ListN.{length-map, get_or-map}
 use Rattle.std.proofs.lemmas.List.{ext_get_or}
 use Rattle.gates.specs.declared.Mark.TheVariants.{Zero}

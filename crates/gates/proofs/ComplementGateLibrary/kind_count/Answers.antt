@@ -1,4 +1,4 @@
-use Rattle.std.proofs.Common.{arith, rules}
+use Rattle.std.proofs.Common.{arith}
 use Rattle.gates.specs.Paired.{length-complementing}
 use Rattle.gates.proofs.ComplementGateLibrary.kind_count.Goals as goal
 

@@ -1,4 +1,4 @@
-use Rattle.std.proofs.Common.{◌≡◌, drop, sym, ap, ◌∙◌, subst}
+use Rattle.std.proofs.Common.{drop, subst}
 use Rattle.gate_list_lines.specs.Lines.{IsGate}
 use Rattle.gate_list_lookup.proofs.Again.{gate_is}
 use Rattle.list_record.proofs.replay.gate_fields.Goals as goal

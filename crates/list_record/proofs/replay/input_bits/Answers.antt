@@ -1,4 +1,4 @@
-use Rattle.std.proofs.Common.{◌≡◌, drop, sym, ap, ◌∙◌, subst}
+use Rattle.std.proofs.Common.{drop, subst}
 use Rattle.gate_list_lines.specs.Lines.{IsInput}
 use Rattle.gate_list_lookup.proofs.Again.{input_is}
 use Rattle.list_record.proofs.replay.input_bits.Goals as goal

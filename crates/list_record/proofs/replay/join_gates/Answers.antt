@@ -1,6 +1,6 @@
-use Rattle.std.proofs.Common.{◌≡◌, ◌+◌, ◌*◌, ◌<◌, ◌≤◌, length, take, sym, ap, ◌∙◌, arith}
+use Rattle.std.proofs.Common.{◌+◌, ◌<◌, ◌≤◌, length, sym, ap, ◌∙◌, arith}
 use Rattle.std.proofs.lemmas.List.{take_all}
-use Rattle.gate_list_format.specs.Lists.{write_gate, wires}
+use Rattle.gate_list_format.specs.Lists.{write_gate}
 use Rattle.gate_list_format.specs.Places.{gates_place}
 use Rattle.gate_list_format.proofs.Laid.{length-laid}
 use Rattle.gate_list.specs.Laws.{gate_number}

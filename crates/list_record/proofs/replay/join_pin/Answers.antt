@@ -1,12 +1,9 @@
-use Rattle.std.proofs.Common.{◌≡◌, ◌<◌, ◌≤◌, length, drop, Some, None, sym, ap, ◌∙◌, subst, arith}
+use Rattle.std.proofs.Common.{◌<◌, length, Some, None, sym, ap, ◌∙◌, subst, arith}
 use Rattle.std.proofs.ByRecursion.{All-get_or}
-use Rattle.gate_list_format.specs.Lists.{LawfulGate, In, names, write_gate, written, input_names, gate_names}
+use Rattle.gate_list_format.specs.Lists.{LawfulGate, In, names, write_gate}
 use Rattle.gate_list_format.specs.Places.{gates_place}
 use Rattle.gate_list_format.proofs.Laid.{length-laid}
 use Rattle.gate_list_lookup.proofs.Again.{pin_is}
-use Rattle.gate_list_names.specs.Names.{input_names_in, gate_names_in}
-use Rattle.gate_list_names.specs.Sources.{FirstSource}
-use Rattle.gate_list.proofs.Known.{entries_name}
 use Rattle.gate_list.specs.Laws.{gate_number}
 use Rattle.gate_list.specs.Tables.{gate_entry}
 use Rattle.list_record.proofs.Lines.{gate_stands}

@@ -1,11 +1,11 @@
-use Rattle.std.proofs.Common.{◌≡◌, ◌+◌, ◌<◌, ◌≤◌, length, sym, ap, ◌∙◌, arith, rules}
+use Rattle.std.proofs.Common.{◌≡◌, ◌+◌, ◌<◌, length, ap, ◌∙◌, arith, rules}
 use Rattle.std.proofs.ByRecursion.{All-get_or}
-use Rattle.gate_list_format.specs.Lists.{GateList, LawfulGate, write_gate}
+use Rattle.gate_list_format.specs.Lists.{LawfulGate, write_gate}
 use Rattle.gate_list_format.specs.Places.{gates_place}
 use Rattle.gate_list_format.proofs.Laid.{length-laid}
 use Rattle.gate_list.specs.Laws.{gate_number}
-use Rattle.gate_list.specs.Tables.{gate_entry, gate_entries}
-use Rattle.list_record.specs.Replay.{Listed, pins_joined, pins_before}
+use Rattle.gate_list.specs.Tables.{gate_entry}
+use Rattle.list_record.specs.Replay.{pins_joined, pins_before}
 use Rattle.list_record.proofs.Lines.{gate_stands}
 use Rattle.list_record.proofs.replay.join_pins.Goals as goal
 

@@ -1,6 +1,5 @@
-use Rattle.std.proofs.Common.{◌≡◌, ◌≤◌, length, take}
+use Rattle.std.proofs.Common.{◌≡◌, take}
 use Rattle.gate_list_format.specs.Lists.{GateList, wires}
-use Rattle.gate_list.specs.Laws.{gate_number}
 use Rattle.gate_list.specs.Tables.{input_entries, gate_entries}
 use Rattle.list_record.specs.Entering.{list_board}
 use Rattle.list_record.specs.Replay.{Listed, pins_joined, pins_before}

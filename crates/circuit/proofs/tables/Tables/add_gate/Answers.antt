@@ -1,4 +1,4 @@
-use Rattle.std.proofs.Common.{◌≡◌, ◌+◌, true, cond, vec_items, vec_len, ap, ◌∙◌, arith}
+use Rattle.std.proofs.Common.{◌≡◌, true, vec_items, ◌∙◌, arith}
 use Rattle.std.proofs.lemmas.Bool.{le-leb, cond-true}
 use Rattle.circuit.proofs.Wired.{numbered_push, sourced_more, push_longer}
 use Rattle.circuit.proofs.tables.Tables.add_gate.Goals as goal

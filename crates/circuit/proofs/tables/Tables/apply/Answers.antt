@@ -1,4 +1,4 @@
-use Rattle.std.proofs.Common.{Bool, vec_items, sym, arith}
+use Rattle.std.proofs.Common.{vec_items, sym, arith}
 use Rattle.std.proofs.lemmas.List.{length-set, append-nil}
 use Rattle.circuit.proofs.Wired.{sourced_more}
 use Rattle.circuit.proofs.tables.Tables.apply.Goals as goal

@@ -1,4 +1,4 @@
-use Rattle.std.proofs.Common.{◌≡◌, vec_items, sym, ap, ◌∙◌, arith}
+use Rattle.std.proofs.Common.{vec_items, sym, ◌∙◌, arith}
 use Rattle.circuit.proofs.Wired.{fits}
 use Rattle.circuit.proofs.Unjoined.{pin_passed, pin_stopped, gate_passed, gate_stopped, gates_none}
 use Rattle.circuit.proofs.tables.Tables.first_unjoined.Goals as goal

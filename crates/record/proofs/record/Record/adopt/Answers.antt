@@ -1,6 +1,5 @@
 use Rattle.std.proofs.Common.{◌≡◌, List, [], map, length, Some, None, vec_items, Option, unwrap_or, sym, ap, ◌∙◌, arith}
 use mathlib.Core.Bool.{false≢true}
-use lib.ListN.{length-map}
 use Rattle.gates.specs.declared.Mark.{Mark}
 use Rattle.std.proofs.lemmas.List.{with_items_is}
 use Rattle.std.proofs.lemmas.Bool.{cond-true}

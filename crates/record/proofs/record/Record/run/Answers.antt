@@ -1,4 +1,4 @@
-use Rattle.std.proofs.Common.{◌≡◌, length, sym, refl, ap, ◌∙◌, subst, ap₂, arith}
+use Rattle.std.proofs.Common.{length, sym, ap, ◌∙◌, subst, ap₂, arith}
 use Rattle.std.proofs.lemmas.List.{with_items_is}
 use Rattle.gates.specs.Told.{answer}
 use Rattle.circuit.specs.Passes.{Run, open_count}
@@ -23,7 +23,7 @@ invariant_of-self-2 g c =
       marked = (λ _. (
         ap length one ∙ c.run-steps.auto.first ∙ c.deref_mut.ensures.len ∙ c.blank.ensures.len ∙ c.size-size.ensures,
         ap length two ∙ c.run-steps.auto.second ∙ c.deref_mut-2.ensures.len ∙ c.blank-2.ensures.len ∙ c.size-size.ensures,
-        ));
+      ));
     }
 
 pub returns : goal.returns

@@ -1,4 +1,4 @@
-use Rattle.std.proofs.Common.{◌≡◌, get_or, sym, refl, ◌∙◌}
+use Rattle.std.proofs.Common.{get_or, sym, refl, ◌∙◌}
 use Rattle.circuit.specs.declared.Signal.TheVariants as signal
 use Rattle.std.proofs.lemmas.List.{at_drop_all}
 use Rattle.record.specs.Moves.{listed}
