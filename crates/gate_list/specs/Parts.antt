@@ -1,7 +1,7 @@
 -- What the parts of the reading answer.
 use Rattle.std.specs.Prelude.{◌≡◌, ℕ, ◌+◌, ◌-◌, ◌<◌, ◌≤◌, Bool, List, [], ◌++◌, length, take, drop, Some, None, Ok, Err, Option, Result}
 use Rattle.std.specs.Borrow.{Bor}
-use Rattle.std.specs.List.{AllByRecursion as All}
+use Rattle.std.specs.List.{AllByRecursion}
 use Rattle.gate_list_format.specs.Slots.{Outcome, accepted, refused, Form, read}
 use Rattle.gate_list_format.specs.Lists.{GateList, Input, Gate, LawfulGate, input_names, write_input, write_gate, writes, written}
 use Rattle.gate_list_format.specs.Reading.{input_forms, gate_forms, known, sourced, answer, reading}
@@ -30,7 +30,7 @@ InputsRead count whole text table (Err e) = (next : List Input → Form GateList
 -- the text begins with these gate lines, and the table's first entries are theirs
 pub record GatesAre (count : ℕ) (whole text : List ℕ) (table : List GateEntry) (gs : List Gate) (rest : List ℕ) : Type 0 where
   pub long : length gs ≡ count
-  pub lawful : All LawfulGate gs
+  pub lawful : AllByRecursion LawfulGate gs
   pub written : text ≡ writes write_gate gs rest
   pub entries : take count table ≡ laid write_gate gate_entry (length whole - length text) gs
 
@@ -44,7 +44,7 @@ pub record Held (text : List ℕ) (inputs : List InputEntry) (gates : List GateE
   pub gate_count : r ≡ length b.gates
   pub few_inputs : n ≤ 32
   pub few_gates : r ≤ 96
-  pub lawful : All LawfulGate b.gates
+  pub lawful : AllByRecursion LawfulGate b.gates
   pub written : text ≡ written b
   pub input_rows : take n inputs ≡ input_entries b
   pub gate_rows : take r gates ≡ gate_entries b
@@ -73,4 +73,4 @@ FirstUnknown ns gs (Some k) = (k < length gs) × ((line : ℕ) (o : Outcome Gate
 
 -- the same of the gates that the table holds
 abbrev pub UnknownGate : List ℕ → List InputEntry → List GateEntry → Option ℕ → Type 0
-UnknownGate text inputs gates r = (gs : List Gate) (front : List ℕ) → All LawfulGate gs → text ≡ front ++ writes write_gate gs [] → gates ≡ laid write_gate gate_entry (length front) gs → FirstUnknown (input_names_in text inputs ++ gate_names_in text gates) gs r
+UnknownGate text inputs gates r = (gs : List Gate) (front : List ℕ) → AllByRecursion LawfulGate gs → text ≡ front ++ writes write_gate gs [] → gates ≡ laid write_gate gate_entry (length front) gs → FirstUnknown (input_names_in text inputs ++ gate_names_in text gates) gs r

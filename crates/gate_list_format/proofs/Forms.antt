@@ -1,6 +1,6 @@
 -- What has the forms of input, pin and gate lines.
 use Rattle.std.proofs.Common.{◌≡◌, ℕ, zero, suc, ◌+◌, ◌<◌, ◌≤◌, true, List, [], ◌∷◌, ◌++◌, length, decimal, sym, refl, ap, ◌∙◌, subst, arith}
-use Rattle.std.specs.List.{AllByRecursion as All}
+use Rattle.std.specs.List.{AllByRecursion}
 use Rattle.std.proofs.lemmas.List.{append-nil, append_assoc, map_push}
 use Rattle.gate_list_format.specs.Slots.{End, space, newline, solids, put, Form}
 use Rattle.gate_list_format.specs.Lists.{Input, Pin, Gate, NotIn, LawfulInput, LawfulPin, LawfulGate, input_names, gate_names, wires, word_text, least_pins, most_pins, write_heading, write_input, write_pins, write_gate, writes, pin_end}
@@ -29,7 +29,7 @@ pub names_push : (is : List Input) (gs : List Gate) (g : Gate) → input_names i
 names_push is gs g = ap (λ ns. input_names is ++ ns) (map_push (λ (k : Gate). k.name) gs g) ∙ sym (append_assoc (input_names is) (gate_names gs) (g.name ∷ []))
 
 module _ {A : Type 0} where
-  pub inputs_read : (n : ℕ) (before : List Input) (next : List Input → Form A) (text : List ℕ) (x : A) → Has (input_forms n before next) text x → (is : List Input) × (rest : List ℕ) × (length is ≡ n) × (text ≡ writes write_input is rest) × All LawfulInput is × Fresh (input_names before) (input_names is) × Has (next (before ++ is)) rest x
+  pub inputs_read : (n : ℕ) (before : List Input) (next : List Input → Form A) (text : List ℕ) (x : A) → Has (input_forms n before next) text x → (is : List Input) × (rest : List ℕ) × (length is ≡ n) × (text ≡ writes write_input is rest) × AllByRecursion LawfulInput is × Fresh (input_names before) (input_names is) × Has (next (before ++ is)) rest x
   inputs_read zero before next text x h = ([], text, refl, refl, tt, tt, subst (λ is. Has (next is) text x) (sym (append-nil before)) h)
   inputs_read (suc n) before next text x (name, v, rest, e, s, j, (f₁, applied, rest₁, e₁, s₁, j₁, (f₂, start, rest₂, e₂, s₂, j₂, h))) =
       let i : Input = record { name = name; applied = applied; start = start } in
@@ -46,7 +46,7 @@ module _ {A : Type 0} where
         subst (λ is. Has (next is) r.1 x) (append_assoc before (i ∷ []) r.0) r.6,
       )
 
-  pub inputs_have : (is before : List Input) (next : List Input → Form A) (rest : List ℕ) (x : A) → All LawfulInput is → Fresh (input_names before) (input_names is) → Has (next (before ++ is)) rest x → Has (input_forms (length is) before next) (writes write_input is rest) x
+  pub inputs_have : (is before : List Input) (next : List Input → Form A) (rest : List ℕ) (x : A) → AllByRecursion LawfulInput is → Fresh (input_names before) (input_names is) → Has (next (before ++ is)) rest x → Has (input_forms (length is) before next) (writes write_input is rest) x
   inputs_have [] before next rest x l f h = subst (λ is. Has (next is) rest x) (append-nil before) h
   inputs_have (i ∷ is) before next rest x l f h =
       let w = name_fits (input_names before) i.name l.0.name f.0 in
@@ -79,7 +79,7 @@ module _ {A : Type 0} where
         ),
       )
 
-  pub pins_from : (n : ℕ) (before : List Pin) (next : List Pin → Form A) (text : List ℕ) (x : A) → Has (pin_forms n before next) text x → (ps : List Pin) × (rest : List ℕ) × (length ps ≡ n) × (text ≡ write_pins ps rest) × All LawfulPin ps × Has (next (before ++ ps)) rest x
+  pub pins_from : (n : ℕ) (before : List Pin) (next : List Pin → Form A) (text : List ℕ) (x : A) → Has (pin_forms n before next) text x → (ps : List Pin) × (rest : List ℕ) × (length ps ≡ n) × (text ≡ write_pins ps rest) × AllByRecursion LawfulPin ps × Has (next (before ++ ps)) rest x
   pins_from zero before next text x h = ([], text, refl, refl, tt, subst (λ ps. Has (next ps) text x) (sym (append-nil before)) h)
   pins_from (suc n) before next text x (source, v, rest, e, s, j, (f₁, start, rest₁, e₁, s₁, j₁, h)) =
       let p : Pin = record { source = source; start = start } in
@@ -93,7 +93,7 @@ module _ {A : Type 0} where
         subst (λ ps. Has (next ps) r.1 x) (append_assoc before (p ∷ []) r.0) r.5,
       )
 
-  pub pins_have : (ps before : List Pin) (next : List Pin → Form A) (rest : List ℕ) (x : A) → All LawfulPin ps → Has (next (before ++ ps)) rest x → Has (pin_forms (length ps) before next) (write_pins ps rest) x
+  pub pins_have : (ps before : List Pin) (next : List Pin → Form A) (rest : List ℕ) (x : A) → AllByRecursion LawfulPin ps → Has (next (before ++ ps)) rest x → Has (pin_forms (length ps) before next) (write_pins ps rest) x
   pins_have [] before next rest x l h = subst (λ ps. Has (next ps) rest x) (append-nil before) h
   pins_have (p ∷ ps) before next rest x l h =
       let w = source_fits p.source l.0.source in
@@ -115,7 +115,7 @@ module _ {A : Type 0} where
         ),
       )
 
-  pub gates_read : (n : ℕ) (is : List Input) (before : List Gate) (next : List Gate → Form A) (text : List ℕ) (x : A) → Has (gate_forms n is before next) text x → (gs : List Gate) × (rest : List ℕ) × (length gs ≡ n) × (text ≡ writes write_gate gs rest) × All LawfulGate gs × Fresh (input_names is ++ gate_names before) (gate_names gs) × Room (wires before) gs × Has (next (before ++ gs)) rest x
+  pub gates_read : (n : ℕ) (is : List Input) (before : List Gate) (next : List Gate → Form A) (text : List ℕ) (x : A) → Has (gate_forms n is before next) text x → (gs : List Gate) × (rest : List ℕ) × (length gs ≡ n) × (text ≡ writes write_gate gs rest) × AllByRecursion LawfulGate gs × Fresh (input_names is ++ gate_names before) (gate_names gs) × Room (wires before) gs × Has (next (before ++ gs)) rest x
   gates_read zero is before next text x h = ([], text, refl, refl, tt, tt, tt, subst (λ gs. Has (next gs) text x) (sym (append-nil before)) h)
   gates_read (suc n) is before next text x (name, v, rest, e, s, j, (f₁, word, rest₁, e₁, s₁, j₁, (f₂, p, rest₂, e₂, s₂, j₂, (f₃, start, rest₃, e₃, s₃, j₃, h)))) =
       let pr = pins_from p [] (λ pins. gate_forms n is (before ++ (record { name = name; word = word; start = start; pins = pins } ∷ [])) next) rest₃ x h in
@@ -139,7 +139,7 @@ module _ {A : Type 0} where
         subst (λ gs. Has (next gs) r.1 x) (append_assoc before (g ∷ []) r.0) r.7,
       )
 
-  pub gates_have : (gs : List Gate) (is : List Input) (before : List Gate) (next : List Gate → Form A) (rest : List ℕ) (x : A) → All LawfulGate gs → Fresh (input_names is ++ gate_names before) (gate_names gs) → Room (wires before) gs → Has (next (before ++ gs)) rest x → Has (gate_forms (length gs) is before next) (writes write_gate gs rest) x
+  pub gates_have : (gs : List Gate) (is : List Input) (before : List Gate) (next : List Gate → Form A) (rest : List ℕ) (x : A) → AllByRecursion LawfulGate gs → Fresh (input_names is ++ gate_names before) (gate_names gs) → Room (wires before) gs → Has (next (before ++ gs)) rest x → Has (gate_forms (length gs) is before next) (writes write_gate gs rest) x
   gates_have [] is before next rest x l f m h = subst (λ gs. Has (next gs) rest x) (append-nil before) h
   gates_have (g ∷ gs) is before next rest x l f m h =
       let w = name_fits (input_names is ++ gate_names before) g.name l.0.name f.0 in

@@ -1,6 +1,6 @@
 -- The written text of a lawful line passes the line's form, and is that of no other line.
 use Rattle.std.proofs.Common.{◌≡◌, ℕ, suc, ◌+◌, ◌^◌, ◌<◌, ◌≤◌, true, List, [], ◌∷◌, ◌++◌, length, decimal, sym, refl, ap, ◌∙◌, arith}
-use Rattle.std.specs.List.{AllByRecursion as All}
+use Rattle.std.specs.List.{AllByRecursion}
 use Rattle.std.proofs.lemmas.Fmt.{decimal_injective}
 use Rattle.std.proofs.lemmas.List.{append_assoc}
 use Rattle.gate_list_format.specs.Slots.{End, space, newline, byte, solids, field, behind, put, verdict, Form, slot, read, line_after}
@@ -60,14 +60,14 @@ module _ {A : Type 0} where
       slot_passed source_name space (after_source end next) line p.source 0 (put (decimal p.start) end rest) w.0 w.1
       ∙ slot_passed bit end (after_bit next p.source) line (decimal p.start) p.start rest a.0 a.1
 
-  pub pins_passed : (p : Pin) (ps before : List Pin) (next : List Pin → Form A) (line : ℕ) (rest : List ℕ) → All LawfulPin (p ∷ ps) → read (pin_forms (length (p ∷ ps)) before next) line (write_pins (p ∷ ps) rest) ≡ read (next (before ++ (p ∷ ps))) (suc line) rest
+  pub pins_passed : (p : Pin) (ps before : List Pin) (next : List Pin → Form A) (line : ℕ) (rest : List ℕ) → AllByRecursion LawfulPin (p ∷ ps) → read (pin_forms (length (p ∷ ps)) before next) line (write_pins (p ∷ ps) rest) ≡ read (next (before ++ (p ∷ ps))) (suc line) rest
   pins_passed p [] before next line rest l = pin_passed newline (λ q. next (before ++ (q ∷ []))) line p rest l.0
   pins_passed p (q ∷ ps) before next line rest l =
       pin_passed space (λ r. pin_forms (suc (length ps)) (before ++ (r ∷ [])) next) line p (write_pins (q ∷ ps) rest) l.0
       ∙ pins_passed q ps (before ++ (p ∷ [])) next line rest l.1
       ∙ ap (λ qs. read (next qs) (suc line) rest) (append_assoc before (p ∷ []) (q ∷ ps))
 
-  some_pins : (ps : List Pin) (next : List Pin → Form A) (line : ℕ) (rest : List ℕ) → 0 < length ps → All LawfulPin ps → read (pin_forms (length ps) [] next) line (write_pins ps rest) ≡ read (next ps) (suc line) rest
+  some_pins : (ps : List Pin) (next : List Pin → Form A) (line : ℕ) (rest : List ℕ) → 0 < length ps → AllByRecursion LawfulPin ps → read (pin_forms (length ps) [] next) line (write_pins ps rest) ≡ read (next ps) (suc line) rest
   some_pins [] next line rest h l = absurd (omega arith)
   some_pins (p ∷ ps) next line rest h l = pins_passed p ps [] next line rest l
 
@@ -111,7 +111,7 @@ pin_same p q d e rest more l m h =
     let s = bit_parts p.start q.start d e rest more l.start m.start n.1 in
     (ap (λ x. record { source = x; start = p.start }) n.0 ∙ ap (λ x. record { source = q.source; start = x }) s.0, s.1)
 
-pub pins_same : (ps qs : List Pin) (rest more : List ℕ) → length ps ≡ length qs → All LawfulPin ps → All LawfulPin qs → write_pins ps rest ≡ write_pins qs more → (ps ≡ qs) × (rest ≡ more)
+pub pins_same : (ps qs : List Pin) (rest more : List ℕ) → length ps ≡ length qs → AllByRecursion LawfulPin ps → AllByRecursion LawfulPin qs → write_pins ps rest ≡ write_pins qs more → (ps ≡ qs) × (rest ≡ more)
 pins_same [] [] rest more n l m h = (refl, h)
 pins_same [] (q ∷ qs) rest more n l m h = absurd (omega arith)
 pins_same (p ∷ ps) [] rest more n l m h = absurd (omega arith)

@@ -1,6 +1,6 @@
 -- A lawful list is short.
 use Rattle.std.proofs.Common.{◌≡◌, ℕ, suc, ◌+◌, ◌*◌, ◌<◌, ◌≤◌, ◌&&◌, leb, List, [], ◌∷◌, length, codes, decimal, arith}
-use Rattle.std.specs.List.{AllByRecursion as All}
+use Rattle.std.specs.List.{AllByRecursion}
 use Rattle.std.proofs.lemmas.Fmt.{length-decimal-le}
 use Rattle.std.proofs.lemmas.List.{length-append}
 use Rattle.std.proofs.lemmas.Bool.{and_parts, leb-true}
@@ -38,7 +38,7 @@ input_size i rest l =
     let r = length-put (decimal i.start) newline rest in
     omega arith
 
-pins_size : (ps : List Pin) (rest : List ℕ) → All LawfulPin ps → length (write_pins ps rest) ≤ 19 * length ps + length rest
+pins_size : (ps : List Pin) (rest : List ℕ) → AllByRecursion LawfulPin ps → length (write_pins ps rest) ≤ 19 * length ps + length rest
 pins_size [] rest l = omega arith
 pins_size (p ∷ ps) rest l =
     let more = pins_size ps rest l.1 in
@@ -64,14 +64,14 @@ gate_size g rest l few =
     let e = length-put (decimal g.start) space (write_pins g.pins rest) in
     omega arith
 
-inputs_size : (is : List Input) (rest : List ℕ) → All LawfulInput is → length (writes write_input is rest) ≤ 21 * length is + length rest
+inputs_size : (is : List Input) (rest : List ℕ) → AllByRecursion LawfulInput is → length (writes write_input is rest) ≤ 21 * length is + length rest
 inputs_size [] rest l = omega arith
 inputs_size (i ∷ is) rest l =
     let one = input_size i (writes write_input is rest) l.0 in
     let more = inputs_size is rest l.1 in
     omega arith
 
-gates_size : (gs : List Gate) (rest : List ℕ) → All LawfulGate gs → wires gs ≤ 384 → length (writes write_gate gs rest) ≤ 28 * length gs + 19 * wires gs + length rest
+gates_size : (gs : List Gate) (rest : List ℕ) → AllByRecursion LawfulGate gs → wires gs ≤ 384 → length (writes write_gate gs rest) ≤ 28 * length gs + 19 * wires gs + length rest
 gates_size [] rest l w = omega arith
 gates_size (g ∷ gs) rest l w =
     let one = gate_size g (writes write_gate gs rest) l.0 (omega arith) in

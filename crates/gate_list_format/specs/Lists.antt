@@ -1,6 +1,6 @@
 -- Gate lists: what they say, which are lawful, and how they are written.
 use Rattle.std.specs.Prelude.{◌≡◌, ℕ, zero, suc, ◌+◌, ◌-◌, ◌*◌, ◌<◌, ◌≤◌, Bool, true, false, ◌&&◌, ◌||◌, ◌⊎◌, List, [], ◌∷◌, ◌++◌, map, length, codes, decimal, ◌==◌, ◌≢◌, nat_le, slice_index, slice_index_or}
-use Rattle.std.specs.List.{AllByRecursion as All}
+use Rattle.std.specs.List.{AllByRecursion}
 use Rattle.gate_list_format.specs.Slots.{End, space, newline, put}
 
 -- an input line
@@ -62,7 +62,7 @@ In f [] = ⊥
 In f (n ∷ ns) = (f ≡ n) ⊎ In f ns
 
 abbrev pub NotIn : List ℕ → List (List ℕ) → Type 0
-NotIn f ns = All (λ n. f ≢ n) ns
+NotIn f ns = AllByRecursion (λ n. f ≢ n) ns
 
 -- no name is repeated
 abbrev pub Distinct : List (List ℕ) → Type 0
@@ -99,17 +99,17 @@ pub record LawfulGate (g : Gate) : Type 0 where
   pub least : least_pins g.word ≤ length g.pins
   pub most : length g.pins ≤ most_pins g.word
   pub start : g.start < 2
-  pub pins : All LawfulPin g.pins
+  pub pins : AllByRecursion LawfulPin g.pins
 
 -- what a list may say: few enough of each, names that are not repeated, and sources that are there
 pub record Lawful (b : GateList) : Type 0 where
   pub inputs : length b.inputs ≤ 32
   pub gates : length b.gates ≤ 96
   pub wires : wires b.gates ≤ 384
-  pub each_input : All LawfulInput b.inputs
-  pub each_gate : All LawfulGate b.gates
+  pub each_input : AllByRecursion LawfulInput b.inputs
+  pub each_gate : AllByRecursion LawfulGate b.gates
   pub distinct : Distinct (names b)
-  pub sources : All (λ g. All (λ p. In p.source (names b)) g.pins) b.gates
+  pub sources : AllByRecursion (λ g. AllByRecursion (λ p. In p.source (names b)) g.pins) b.gates
 
 -- how a list is written, before the rest of the text
 abbrev pub write_heading : List ℕ → ℕ → List ℕ → List ℕ

@@ -1,6 +1,6 @@
 -- Steps of headings, pins and lines.
 use Rattle.std.proofs.Common.{◌≡◌, ℕ, zero, suc, ◌+◌, ◌-◌, ◌<◌, ◌≤◌, true, false, ◌&&◌, leb, List, [], ◌∷◌, ◌++◌, length, take, decimal, sym, refl, ap, ◌∙◌, subst, arith}
-use Rattle.std.specs.List.{AllByRecursion as All}
+use Rattle.std.specs.List.{AllByRecursion}
 use Rattle.std.proofs.ByRecursion.{All-append}
 use Rattle.std.proofs.lemmas.List.{length-append, take_at}
 use Rattle.std.proofs.lemmas.Bool.{cond-true, cond-false, and_from, and_left, and_right, le-leb, lt-leb}
@@ -87,7 +87,7 @@ pub spaced_last : (ps : List Pin) (p : Pin) (rest : List ℕ) → spaced ps (wri
 spaced_last [] p rest = refl
 spaced_last (q ∷ ps) p rest = ap (write_pin q space) (spaced_last ps p rest) ∙ ap (λ e. write_pin q e (write_pins (ps ++ (p ∷ [])) rest)) (end_before ps p)
 
-pub all_push : (ps : List Pin) (p : Pin) → All LawfulPin ps → LawfulPin p → All LawfulPin (ps ++ (p ∷ []))
+pub all_push : (ps : List Pin) (p : Pin) → AllByRecursion LawfulPin ps → LawfulPin p → AllByRecursion LawfulPin (ps ++ (p ∷ []))
 all_push ps p h l = All-append LawfulPin ps (p ∷ []) h (l, tt)
 
 -- the pins' part of the text, as code cuts it
@@ -136,7 +136,7 @@ gate_written seen text name t₁ word t₂ n before t₃ start t₄ ps rest p q 
     (put_same t₂ (field t₂) (decimal (length ps)) space t₃ _ r.begins ((pins_read word before (field t₂) n r.fits).0 ∙ ap decimal (sym l))
     (put_same t₃ (field t₃) (decimal start) space t₄ _ s.begins (number_read 15 0 2 start (field t₃) s.fits).2 e)))
 
-pub gate_lawful : (seen : List (List ℕ)) (text name t₁ : List ℕ) (word : ℕ) (t₂ : List ℕ) (n before : ℕ) (t₃ : List ℕ) (start : ℕ) (t₄ : List ℕ) (ps : List Pin) → Passed (new_name seen) space text name 0 t₁ → Passed gate_word space t₁ (field t₁) word t₂ → Passed (pin_count word before) space t₂ (field t₂) n t₃ → Passed bit space t₃ (field t₃) start t₄ → All LawfulPin ps → length ps ≡ n → LawfulGate (record { name = name; word = word; start = start; pins = ps })
+pub gate_lawful : (seen : List (List ℕ)) (text name t₁ : List ℕ) (word : ℕ) (t₂ : List ℕ) (n before : ℕ) (t₃ : List ℕ) (start : ℕ) (t₄ : List ℕ) (ps : List Pin) → Passed (new_name seen) space text name 0 t₁ → Passed gate_word space t₁ (field t₁) word t₂ → Passed (pin_count word before) space t₂ (field t₂) n t₃ → Passed bit space t₃ (field t₃) start t₄ → AllByRecursion LawfulPin ps → length ps ≡ n → LawfulGate (record { name = name; word = word; start = start; pins = ps })
 gate_lawful seen text name t₁ word t₂ n before t₃ start t₄ ps p q r s each l =
     let c = pins_read word before (field t₂) n r.fits in
     record { name = (name_read seen name 0 p.fits).0; word = (word_read (field t₁) word q.fits).0; least = subst (λ m. least_pins word ≤ m) (sym l) c.1; most = subst (λ m. m ≤ most_pins word) (sym l) c.2; start = (number_read 15 0 2 start (field t₃) s.fits).1; pins = each }

@@ -1,7 +1,7 @@
 -- What code answers of headings, pins and lines, whatever follows them in the text.
 use Rattle.std.specs.Prelude.{◌≡◌, ℕ, ◌+◌, ◌≤◌, List, [], length, Ok, Err, decimal, Result}
 use Rattle.std.specs.Borrow.{Bor}
-use Rattle.std.specs.List.{AllByRecursion as All}
+use Rattle.std.specs.List.{AllByRecursion}
 use Rattle.gate_list_format.specs.Slots.{End, space, newline, refused, Form, slot, read, line_after, put}
 use Rattle.gate_list_format.specs.Lists.{GateList, Input, Pin, Gate, LawfulInput, LawfulPin, LawfulGate, kind_of, write_heading, write_input, write_pins, write_gate}
 use Rattle.gate_list_format.specs.Reading.{heading, heading_form, source_name, bit, input_form, pin_forms, gate_form}
@@ -85,7 +85,7 @@ PinRead end text (Err f) = Stops (pin_form end) text (number_of f)
 
 pub record PinsAre (count : ℕ) (text : List ℕ) (ps : List Pin) (rest : List ℕ) : Type 0 where
   pub long : length ps ≡ count
-  pub lawful : All LawfulPin ps
+  pub lawful : AllByRecursion LawfulPin ps
   pub written : text ≡ write_pins ps rest
   pub on : GoesOn (pin_forms count []) newline text ps rest
 

@@ -1,6 +1,6 @@
 -- A written line is read again as it is.
 use Rattle.std.proofs.Common.{◌≡◌, ℕ, ◌+◌, ◌-◌, ◌<◌, ◌≤◌, List, [], ◌∷◌, length, drop, Some, None, Ok, Err, decimal, Option, Result, sym, refl, ap, ◌∙◌, subst, arith, length-drop, Bor}
-use Rattle.std.specs.List.{AllByRecursion as All}
+use Rattle.std.specs.List.{AllByRecursion}
 use Rattle.std.proofs.ByRecursion.{All-drop}
 use Rattle.std.proofs.lemmas.List.{drop_more}
 use Rattle.gate_list_format.specs.Slots.{End, Form, slot, ends, read, accepted, refused, space, newline, put, behind, past, fault, step, verdict}
@@ -63,7 +63,7 @@ never_read n line q qs l =
     some [] h = absurd (omega arith)
     some (b ∷ bs) h = refl
 
-pin_not : (p : Pin) (ps : List Pin) (n : ℕ) → Stops (pin_form (pin_end (length ps))) (write_pins (p ∷ ps) []) n → All LawfulPin (p ∷ ps) → ⊥
+pin_not : (p : Pin) (ps : List Pin) (n : ℕ) → Stops (pin_form (pin_end (length ps))) (write_pins (p ∷ ps) []) n → AllByRecursion LawfulPin (p ∷ ps) → ⊥
 pin_not p [] n stops l =
     let next : Pin → Form GateList = λ _. ends (accepted none) in
     not_here [] n (sym (pin_passed newline next 0 p [] l.0) ∙ stops 0 next)
@@ -74,18 +74,18 @@ pin_not p (q ∷ qs) n stops l =
     let z : ◌≡◌ {A = ℕ} 16 17 = cc in
     omega arith
 
-pub pin_again : (p : Pin) (ps : List Pin) (text : List ℕ) (r : Result (PinFields × Bor (List ℕ)) Fault) → All LawfulPin (p ∷ ps) → text ≡ write_pins (p ∷ ps) [] → PinRead (pin_end (length ps)) text r → PinAgain p (write_pins ps []) r
+pub pin_again : (p : Pin) (ps : List Pin) (text : List ℕ) (r : Result (PinFields × Bor (List ℕ)) Fault) → AllByRecursion LawfulPin (p ∷ ps) → text ≡ write_pins (p ∷ ps) [] → PinRead (pin_end (length ps)) text r → PinAgain p (write_pins ps []) r
 pin_again p ps text (Ok x) l e h =
     let is = pin_same h.0 p (pin_end (length ps)) (pin_end (length ps)) x.1.now (write_pins ps []) h.2.lawful l.0 (sym h.2.written ∙ e) in
     (subst (IsPin x.0) is.0 h.1, is.1)
 pin_again p ps text (Err f) l e h = pin_not p ps (number_of f) (subst (λ t. Stops (pin_form (pin_end (length ps))) t (number_of f)) e h) l
 
 -- one pin after another is read again
-pub pin_turn : (ps : List Pin) (p count : ℕ) (e : End) (rest : List ℕ) (r : Result (PinFields × Bor (List ℕ)) Fault) → All LawfulPin ps → length ps ≡ count → p < count → rest ≡ write_pins (drop p ps) [] → e ≡ pin_end (count - p - 1) → PinRead e rest r → PinAgain (pin_number ps p) (write_pins (drop (p + 1) ps) []) r
+pub pin_turn : (ps : List Pin) (p count : ℕ) (e : End) (rest : List ℕ) (r : Result (PinFields × Bor (List ℕ)) Fault) → AllByRecursion LawfulPin ps → length ps ≡ count → p < count → rest ≡ write_pins (drop p ps) [] → e ≡ pin_end (count - p - 1) → PinRead e rest r → PinAgain (pin_number ps p) (write_pins (drop (p + 1) ps) []) r
 pin_turn ps p count e rest r l n less is end h =
     let split = drop_more ps p (record { source = []; start = 0 }) (omega arith) in
     let long : count - p - 1 ≡ length (drop (p + 1) ps) = omega (arith, length-drop (p + 1) ps) in
-    pin_again (pin_number ps p) (drop (p + 1) ps) rest r (subst (All LawfulPin) split (All-drop LawfulPin p ps l)) (is ∙ ap (λ t. write_pins t []) split) (subst (λ x. PinRead x rest r) (end ∙ ap pin_end long) h)
+    pin_again (pin_number ps p) (drop (p + 1) ps) rest r (subst (AllByRecursion LawfulPin) split (All-drop LawfulPin p ps l)) (is ∙ ap (λ t. write_pins t []) split) (subst (λ x. PinRead x rest r) (end ∙ ap pin_end long) h)
 
 -- the pin at its number is that pin
 pub pin_is : (text : List ℕ) (p : ℕ) (fields : PinFields) (g : Gate) (rest : List ℕ) → PinAt text p (Some fields) → LawfulGate g → text ≡ write_gate g rest → PinOf g.pins p (Some fields)

@@ -2,7 +2,7 @@
 #![tactic(auto)]
 
 ghost use Rattle.std.specs.Prelude.{◌≡◌, List, [], length, drop};
-ghost use Rattle.std.specs.List.{AllByRecursion as All};
+ghost use Rattle.std.specs.List.{AllByRecursion};
 ghost use Rattle.gate_list_format.specs.Lists.{Pin, LawfulPin, write_pins};
 ghost use Rattle.gate_list_lookup.specs.Lookup.{InputAt, GateAt, PinAt, PinOf};
 
@@ -47,7 +47,7 @@ pub fn pin_at(text: &[u8], place: usize, p: usize) -> Option<PinFields<'_>>
 
 /// A pin's fields among those of so many pins
 fn pin_of(pins: &[u8], count: u8, p: usize) -> Option<PinFields<'_>>
-    ensures { (ps : List Pin) → All LawfulPin ps → length ps ≡ count → pins.now ≡ write_pins ps [] → PinOf ps p result }
+    ensures { (ps : List Pin) → AllByRecursion LawfulPin ps → length ps ≡ count → pins.now ≡ write_pins ps [] → PinOf ps p result }
 {
     let mut rest = pins;
     for i in 0..count {

@@ -1,7 +1,7 @@
 -- What a gate library means: a list of kinds, each a pin count and a Boolean function of its pins.
 use Rattle.std.specs.Prelude.{ℕ, ◌≤◌, Bool, cond, not, List, [], ◌∷◌, length, take, Some, None, Option, ◌==◌}
 use Rattle.std.specs.Option.{option_map}
-use Rattle.std.specs.List.{slice_get, AllByRecursion as All}
+use Rattle.std.specs.List.{slice_get, AllByRecursion}
 use Rattle.gates.specs.declared.Mark.{Mark}
 use Rattle.gates.specs.Marks.{extended}
 
@@ -11,7 +11,7 @@ pub record Kind : Type 0 where
 
 pub record Lawful (ks : List Kind) : Type 0 where
   pub few : length ks ≤ 4096
-  pub narrow : All (λ k. (1 ≤ k.pins) × (k.pins ≤ 8)) ks
+  pub narrow : AllByRecursion (λ k. (1 ≤ k.pins) × (k.pins ≤ 8)) ks
 
 abbrev pub pins_of : List Kind → ℕ → Option ℕ
 pins_of ks k = option_map (λ (kind : Kind). kind.pins) (slice_get ks k)

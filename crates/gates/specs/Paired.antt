@@ -3,7 +3,7 @@ use Rattle.std.specs.Prelude.{◌≡◌, ℕ, zero, suc, ◌*◌, ◌/◌, ◌%�
 use Rattle.std.proofs.Common.{ap, ◌∙◌, arith, ⊎_elim, length-take}
 use Rattle.std.proofs.lemmas.Bool.{cases_eq}
 use Rattle.std.specs.Option.{option_map}
-use Rattle.std.specs.List.{slice_get, AllByRecursion as All}
+use Rattle.std.specs.List.{slice_get, AllByRecursion}
 use Rattle.std.proofs.lemmas.Option.{slice_get_past}
 use Rattle.std.proofs.ByRecursion.{All-take}
 use Rattle.gates.specs.Kinds.{Kind, Lawful, paired, complement, complementing, given_by}
@@ -62,7 +62,7 @@ given_complement give turn (Some kind) xs h = by (length xs == kind.pins)
 abbrev Narrow : Kind → Type 0
 Narrow k = (1 ≤ k.pins) × (k.pins ≤ 8)
 
-all_paired : (ks : List Kind) → All Narrow ks → All Narrow (paired ks)
+all_paired : (ks : List Kind) → AllByRecursion Narrow ks → AllByRecursion Narrow (paired ks)
 all_paired [] h = tt
 all_paired (k ∷ ks) (h, hs) = (h, (h, all_paired ks hs))
 

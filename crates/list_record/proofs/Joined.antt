@@ -1,7 +1,7 @@
 -- Every pin of a lawful list is joined.
 use Rattle.std.proofs.Common.{◌≡◌, ℕ, suc, Bool, true, false, cond, ◌⊎◌, List, [], ◌∷◌, ◌++◌, take, drop, is_some, Some, None, Option, refl, ap, ◌∙◌, inl, inr, ⊎_elim, arith}
 use Rattle.std.specs.Option.{option_map}
-use Rattle.std.specs.List.{AllByRecursion as All}
+use Rattle.std.specs.List.{AllByRecursion}
 use Rattle.std.specs.Str.{bytes_eq}
 use Rattle.std.proofs.ByRecursion.{All-take, All-drop, All-append}
 use Rattle.std.proofs.lemmas.Slice.Eq.{bytes_eq-Decides}
@@ -15,12 +15,12 @@ use Rattle.list_record.specs.ListBoards.{PinsJoined, position, source_at, source
 abbrev Tied : Option Source → Type 0
 Tied o = is_some o ≡ true
 
-no_pin : (p : ℕ) (xs : List (Option Source)) → All Tied xs → unjoined_pin p xs ≡ None
+no_pin : (p : ℕ) (xs : List (Option Source)) → AllByRecursion Tied xs → unjoined_pin p xs ≡ None
 no_pin p [] h = refl
 no_pin p (None ∷ xs) h = let e = h.0 in let z : ◌≡◌ {A = ℕ} 0 1 = cc in absurd (omega arith)
 no_pin p (Some s ∷ xs) h = no_pin (suc p) xs h.1
 
-no_gate : (g : ℕ) (gates : List circuit.Gate) (xs : List (Option Source)) → All Tied xs → unjoined_from g gates xs ≡ None
+no_gate : (g : ℕ) (gates : List circuit.Gate) (xs : List (Option Source)) → AllByRecursion Tied xs → unjoined_from g gates xs ≡ None
 no_gate g [] xs h = refl
 no_gate g (x ∷ gates) xs h =
     ap (λ o. at_gate g o (unjoined_from (suc g) gates xs)) (no_pin 0 (take x.pins (drop x.first xs)) (All-take Tied x.pins (drop x.first xs) (All-drop Tied x.first xs h)))
@@ -56,11 +56,11 @@ named_tied b f h =
     either_tied (position f (input_names b.inputs)) (position f (gate_names b.gates))
     (⊎_elim (λ i. inl (in_position f (input_names b.inputs) i)) (λ i. inr (in_position f (gate_names b.gates) i)) (in_append f (input_names b.inputs) (gate_names b.gates) h))
 
-pins_tied : (b : GateList) (ps : List Pin) → All (λ p. In p.source (names b)) ps → All Tied (pin_sources b ps)
+pins_tied : (b : GateList) (ps : List Pin) → AllByRecursion (λ p. In p.source (names b)) ps → AllByRecursion Tied (pin_sources b ps)
 pins_tied b [] h = tt
 pins_tied b (p ∷ ps) h = (named_tied b p.source h.0, pins_tied b ps h.1)
 
-all_pins : (P : Pin → Type 0) (gs : List Gate) → All (λ g. All P g.pins) gs → All P (pins_in gs)
+all_pins : (P : Pin → Type 0) (gs : List Gate) → AllByRecursion (λ g. AllByRecursion P g.pins) gs → AllByRecursion P (pins_in gs)
 all_pins P [] h = tt
 all_pins P (g ∷ gs) h = All-append P g.pins (pins_in gs) h.0 (all_pins P gs h.1)
 

@@ -2,7 +2,7 @@
 use Rattle.std.proofs.Common.{◌≡◌, ℕ, zero, suc, ◌<◌, ◌≤◌, Bool, true, false, cond, not, ◌⊎◌, List, [], ◌∷◌, length, get_or, set, sym, refl, ap, ◌∙◌, subst, inl, inr, ⊎_elim, arith, length-set}
 use mathlib.Core.Bool.{Bool-discrete}
 use native.Mathlib.Decide.{ℕ_discrete}
-use Rattle.std.specs.List.{AllByRecursion as All}
+use Rattle.std.specs.List.{AllByRecursion}
 use Rattle.std.proofs.lemmas.Bool.{cond_both, cond-true}
 use Rattle.std.proofs.lemmas.List.{get_or-set_same, get_or-set_other, ext_get_or}
 use Rattle.std.proofs.ByRecursion.{All-weaker}
@@ -19,7 +19,7 @@ abbrev One : Signal → List Signal → Type 0
 One y [] = ⊥
 One y (x ∷ xs) = (x ≡ y) ⊎ One y xs
 
-one_all : (P : Signal → Type 0) (xs : List Signal) (y : Signal) → All P xs → One y xs → P y
+one_all : (P : Signal → Type 0) (xs : List Signal) (y : Signal) → AllByRecursion P xs → One y xs → P y
 one_all P [] y a o = absurd o
 one_all P (x ∷ xs) y a o = ⊎_elim (λ e. subst P e a.0) (λ r. one_all P xs y a.1 r) o
 
@@ -32,7 +32,7 @@ module _ (c : Circuit) where
   fired_long [] s = refl
   fired_long (x ∷ xs) s = fired_long xs (set s (place c x) (not (value c s x))) ∙ length-set s (place c x) (not (value c s x))
 
-  fired_told : (xs : List Signal) (s : State) → length s ≡ size c → All (Has c) xs → Apart xs → (y : Signal) → Has c y → Told c s xs y
+  fired_told : (xs : List Signal) (s : State) → length s ≡ size c → AllByRecursion (Has c) xs → Apart xs → (y : Signal) → Has c y → Told c s xs y
   fired_told [] s l there apart y h = inl ((λ o. o), refl)
   fired_told (x ∷ xs) s l there apart y h =
       let t : State = set s (place c x) (not (value c s x)) in
@@ -92,13 +92,13 @@ module _ (c : Circuit) (s t : State) where
   abbrev Changed : ℕ → Signal → Type 0
   Changed m y = Has c y × (place c y < m) × (value c t y ≡ value c s y → ⊥)
 
-  changed_all : (m : ℕ) → m ≤ size c → All (Changed m) (changed m)
+  changed_all : (m : ℕ) → m ≤ size c → AllByRecursion (Changed m) (changed m)
   changed_all zero h = tt
   changed_all (suc m) h =
       let at = placed c m (omega arith) in
       let p = at.0 in
       let rest = All-weaker (Changed m) (Changed (suc m)) (λ y k. let l = k.1 in (k.0, omega arith, k.2)) (changed m) (changed_all m (omega arith)) in
-      cond_both (unlike (get_or t m false) (get_or s m false)) (signal_at c m ∷ changed m) (changed m) (All (Changed (suc m)))
+      cond_both (unlike (get_or t m false) (get_or s m false)) (signal_at c m ∷ changed m) (changed m) (AllByRecursion (Changed (suc m)))
       (λ e. ((at.1, omega arith, λ q. unlike_is (get_or t m false) (get_or s m false) e (sym (ap (λ i. get_or t i false) p) ∙ q ∙ ap (λ i. get_or s i false) p)), rest))
       (λ e. rest)
 
@@ -121,10 +121,10 @@ module _ (ks : List Kind) (c : Circuit) (s t : State) (ls : length s ≡ size c)
   abbrev xs : List Signal
   xs = changed c s t (size c)
 
-  all : All (Changed c s t (size c)) xs
+  all : AllByRecursion (Changed c s t (size c)) xs
   all = changed_all c s t (size c) (omega arith)
 
-  there : All (Has c) xs
+  there : AllByRecursion (Has c) xs
   there = All-weaker (Changed c s t (size c)) (Has c) (λ y k. k.0) xs all
 
   complete : (y : Signal) → Has c y → (value c t y ≡ value c s y → ⊥) → One y xs

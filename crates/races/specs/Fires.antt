@@ -1,6 +1,6 @@
 -- Firing: some unstable signals are complemented at once, which is a race step.
 use Rattle.std.specs.Prelude.{◌≡◌, not, ◌⊎◌, List, [], ◌∷◌, length, slice_set}
-use Rattle.std.specs.List.{AllByRecursion as All}
+use Rattle.std.specs.List.{AllByRecursion}
 use Rattle.gates.specs.Kinds.{Kind}
 use Rattle.circuit.specs.declared.Signal.{Signal}
 use Rattle.circuit.specs.Circuits.{Circuit, Has, size, place}
@@ -14,14 +14,14 @@ fired c (x ∷ xs) s = fired c xs (slice_set s (place c x) (not (value c s x)))
 -- no entry equals another
 abbrev pub Apart : List Signal → Type 0
 Apart [] = Unit {0}
-Apart (x ∷ xs) = All (λ y. ¬ (x ≡ y)) xs × Apart xs
+Apart (x ∷ xs) = AllByRecursion (λ y. ¬ (x ≡ y)) xs × Apart xs
 
 -- what may be fired: at least one signal, none twice, each there and unstable
 pub record Fires (ks : List Kind) (c : Circuit) (s : State) (xs : List Signal) : Type 0 where
   pub some : ¬ (xs ≡ [])
   pub apart : Apart xs
-  pub there : All (Has c) xs
-  pub unstable : All (λ x. ¬ Stable ks c s x) xs
+  pub there : AllByRecursion (Has c) xs
+  pub unstable : AllByRecursion (λ x. ¬ Stable ks c s x) xs
 
 -- firing is a race step
 abbrev pub FireSteps : Type 0

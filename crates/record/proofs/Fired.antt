@@ -1,7 +1,7 @@
 -- Which lists of signals can be fired.
 use Rattle.std.proofs.Common.{◌≡◌, ℕ, ◌+◌, ◌<◌, Bool, true, false, cond, not, ◌||◌, eqb, List, [], ◌∷◌, ◌++◌, length, get_or, take, drop, is_some, Some, None, Option, unwrap_or, sym, refl, ap, ◌∙◌, subst, inl, inr, ⊎_elim, true≢false, arith}
 use mathlib.Core.Bool.{beq, false≢true}
-use Rattle.std.specs.List.{AllByRecursion as All}
+use Rattle.std.specs.List.{AllByRecursion}
 use Rattle.std.proofs.ByRecursion.{All-weaker}
 use Rattle.std.proofs.lemmas.List.{at_drop_more, take_more}
 use Rattle.std.proofs.lemmas.Bool.{lt-ltb, ltb-true, eqb-true, eq-eqb}
@@ -148,9 +148,9 @@ module _ (b : Board) where
 
   -- what the checks of the entries let pass
   pub record Passed (earlier xs : List Signal) : Type 0 where
-    pub there : All (Has b.circuit) xs
-    pub unstable : All Unstable xs
-    pub new : All (λ x. listed earlier x ≡ false) xs
+    pub there : AllByRecursion (Has b.circuit) xs
+    pub unstable : AllByRecursion Unstable xs
+    pub new : AllByRecursion (λ x. listed earlier x ≡ false) xs
     pub apart : Apart xs
 
   pub entries_pass : (earlier xs : List Signal) → first_stop (entry_stops b earlier xs) ≡ None → Passed earlier xs
@@ -179,7 +179,7 @@ module _ (b : Board) where
       ∙ first_passed (unless (is_unstable b x) 8) [] (unless_true (is_unstable b x) 8 (is_unlike _ _ p.unstable.0)))
       ∙ entries_none (earlier ++ x ∷ []) xs (record { there = p.there.1; unstable = p.unstable.1; new = both earlier xs new apart; apart = p.apart.1 })
     where
-      both : (earlier ys : List Signal) → All (λ y. listed earlier y ≡ false) ys → All (λ y. ¬ (x ≡ y)) ys → All (λ y. listed (earlier ++ x ∷ []) y ≡ false) ys
+      both : (earlier ys : List Signal) → AllByRecursion (λ y. listed earlier y ≡ false) ys → AllByRecursion (λ y. ¬ (x ≡ y)) ys → AllByRecursion (λ y. listed (earlier ++ x ∷ []) y ≡ false) ys
       both earlier [] m n = tt
       both earlier (y ∷ ys) m n = (push_unlisted earlier x y m.0 (not_true (same_signal x y) (λ e. n.0 (same_is x y e))), both earlier ys m.1 n.1)
 

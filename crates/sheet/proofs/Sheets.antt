@@ -1,7 +1,7 @@
 -- Equal sheets have equal counts and marks.
 use Rattle.std.proofs.Common.{◌≡◌, ℕ, ◌+◌, ◌-◌, ◌*◌, ◌%◌, ◌^◌, ◌<◌, ◌≤◌, List, [], ◌∷◌, ◌++◌, length, take, drop, codes, decimal, sym, refl, ap, ◌∙◌, subst, ap₂, append_assoc, append-nil, arith}
 use mathlib.Core.List.{append_cancel_left}
-use Rattle.std.specs.List.{AllByRecursion as All}
+use Rattle.std.specs.List.{AllByRecursion}
 use Rattle.std.proofs.lemmas.Fmt.{decimal_by_steps, decimal_injective}
 use Rattle.std.proofs.ByRecursion.{All-append}
 use Rattle.std.proofs.lemmas.List.{length-take-le, length-drop, length-append, take-append-drop, take_rest, drop-drop}
@@ -24,10 +24,10 @@ byte_same Unknown One e = absurd (omega arith)
 byte_same Unknown Unknown e = refl
 
 -- digits end at the first line end
-digits : (n : ℕ) → n < 2 ^ 64 → All (λ d. 48 ≤ d) (decimal n)
-digits n h = decimal_by_steps (λ m ds. All (λ d. 48 ≤ d) ds) (λ m l. (omega arith, tt)) (λ m ds l r. All-append (λ d. 48 ≤ d) ds ((48 + m % 10) ∷ []) r (omega arith, tt)) n h
+digits : (n : ℕ) → n < 2 ^ 64 → AllByRecursion (λ d. 48 ≤ d) (decimal n)
+digits n h = decimal_by_steps (λ m ds. AllByRecursion (λ d. 48 ≤ d) ds) (λ m l. (omega arith, tt)) (λ m ds l r. All-append (λ d. 48 ≤ d) ds ((48 + m % 10) ∷ []) r (omega arith, tt)) n h
 
-line_same : (ds es xs ys : List ℕ) → All (λ d. 48 ≤ d) ds → All (λ d. 48 ≤ d) es → ds ++ 10 ∷ xs ≡ es ++ 10 ∷ ys → (ds ≡ es) × (xs ≡ ys)
+line_same : (ds es xs ys : List ℕ) → AllByRecursion (λ d. 48 ≤ d) ds → AllByRecursion (λ d. 48 ≤ d) es → ds ++ 10 ∷ xs ≡ es ++ 10 ∷ ys → (ds ≡ es) × (xs ≡ ys)
 line_same [] [] xs ys p q e = (refl, cc)
 line_same [] (d ∷ es) xs ys p q e = let h : 10 ≡ d = cc in let l = q.0 in absurd (omega arith)
 line_same (d ∷ ds) [] xs ys p q e = let h : d ≡ 10 = cc in let l = p.0 in absurd (omega arith)

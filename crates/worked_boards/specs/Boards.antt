@@ -1,6 +1,6 @@
 -- The twelve worked boards.
 use Rattle.std.specs.Prelude.{ℕ, Bool, true, false, List, [], ◌∷◌, Some}
-use Rattle.std.specs.List.{AllByRecursion as All}
+use Rattle.std.specs.List.{AllByRecursion}
 use Rattle.gates.specs.declared.Mark.{Mark}
 use Rattle.gates.specs.declared.Mark.TheVariants.{Zero, One, Unknown}
 use Rattle.plain_gates.specs.Plain.{plain}
@@ -143,4 +143,4 @@ boards =
 
 -- every board is as said
 abbrev pub BoardsAsSaid : Type 0
-BoardsAsSaid = All AsSaid boards
+BoardsAsSaid = AllByRecursion AsSaid boards

@@ -1,5 +1,5 @@
 use Rattle.std.proofs.Common.{◌≡◌, ℕ, ◌+◌, List, [], ◌++◌, length, drop}
-use Rattle.std.specs.List.{AllByRecursion as All}
+use Rattle.std.specs.List.{AllByRecursion}
 use Rattle.gate_list_format.specs.Slots.{Outcome}
 use Rattle.gate_list_format.specs.Lists.{GateList, Gate, LawfulGate, write_gate, writes}
 use Rattle.gate_list_format.specs.Reading.{sourced}
@@ -9,4 +9,4 @@ use Rattle.gate_list.specs.Tables.{gate_entry}
 use Rattle.gate_list.proofs.unknown_gate.Given as goal
 
 abbrev pub invariant-loop-k : goal.invariant-loop-k
-invariant-loop-k l = (gs : List Gate) (front : List ℕ) → All LawfulGate gs → l.text ≡ front ++ writes write_gate gs [] → l.gates ≡ laid write_gate gate_entry (length front) gs → (line : ℕ) (o : Outcome GateList) → sourced (input_names_in l.text l.inputs ++ gate_names_in l.text l.gates) line gs o ≡ sourced (input_names_in l.text l.inputs ++ gate_names_in l.text l.gates) (line + l.k) (drop l.k gs) o
+invariant-loop-k l = (gs : List Gate) (front : List ℕ) → AllByRecursion LawfulGate gs → l.text ≡ front ++ writes write_gate gs [] → l.gates ≡ laid write_gate gate_entry (length front) gs → (line : ℕ) (o : Outcome GateList) → sourced (input_names_in l.text l.inputs ++ gate_names_in l.text l.gates) line gs o ≡ sourced (input_names_in l.text l.inputs ++ gate_names_in l.text l.gates) (line + l.k) (drop l.k gs) o

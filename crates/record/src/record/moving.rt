@@ -1,6 +1,6 @@
 //! Moving on: firing unstable signals by hand, and adopting what the races came to.
 ghost use Rattle.std.specs.Prelude.{◌≡◌, ℕ, ◌<◌, [], ◌∷◌, map, length, vec_len, vec_capacity, OnOk};
-ghost use Rattle.std.specs.List.{AllByRecursion as All};
+ghost use Rattle.std.specs.List.{AllByRecursion};
 ghost use Rattle.gates.specs.Told.{told_by, left_by, first_stop};
 ghost use Rattle.circuit.specs.Circuits.{Has, size};
 ghost use Rattle.circuit.specs.Views.{circuit_of};
@@ -91,7 +91,7 @@ fn stands_in(signals: &[Signal], signal: Signal) -> bool
 }
 
 fn complement_all(tables: &Tables, values: &mut [bool], signals: &[Signal])
-    requires there { All (Has (circuit_of tables.now)) signals.now }
+    requires there { AllByRecursion (Has (circuit_of tables.now)) signals.now }
     requires whole { length values.old ≡ size (circuit_of tables.now) }
     ensures { values.new ≡ fired (circuit_of tables.now) signals.now values.old }
 {
