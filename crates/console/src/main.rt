@@ -7,11 +7,18 @@ use plain_gates::PlainGates;
 use script::read_script;
 use std::io;
 use std::io::Write;
+use std::process::ExitCode;
 
 mod script;
 
-fn main(rt: HostRuntime) -> anyhow::Result<()> {
-    run(&rt)
+fn main(rt: HostRuntime) -> ExitCode {
+    match run(&rt) {
+        Ok(()) => ExitCode::SUCCESS,
+        Err(error) => {
+            let _ = eprintln!(rt; "{error}");
+            ExitCode::FAILURE
+        }
+    }
 }
 
 // Nothing is run unless every line is a call.
