@@ -1,6 +1,5 @@
-use Rattle.std.proofs.Common.{length, vec_items, sym, ap, ◌∙◌, arith}
+use Rattle.std.proofs.Common.{sym, ap, ◌∙◌, arith}
 use mathlib.Core.Bool.{false≢true}
-use Rattle.std.proofs.lemmas.List.Edits.{length-insert}
 use Rattle.std.proofs.lemmas.Bool.{cond-true}
 use Rattle.circuit.specs.Circuits.{size}
 use Rattle.circuit.specs.Views.{circuit_of}
@@ -14,7 +13,8 @@ invariant_of-self-2 g c =
     let after = ap size (c.add_input.ensures.after ∙ cond-true _ _ _ fits) ∙ size_with_input (circuit_of r.tables) in
     let number = some_is _ _ _ (sym c.in-Some.is ∙ c.add_input.ensures.answer) in
     let v = r.valued in
-    let grown = ap length c.insert_zero.ensures.items ∙ length-insert (vec_items r.values) _ _ (omega arith) in record {
+    let held = r.values.ok.0 in
+    let grown = c.insert_zero.new.values.ok.0 in record {
       reserved = (omega arith, omega arith, omega arith, omega arith);
       valued = omega arith;
       marked = (λ e. absurd (false≢true e));
