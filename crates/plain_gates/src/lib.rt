@@ -2,7 +2,7 @@
 #![tactic(auto)]
 
 ghost use Rattle.plain_gates.specs.Plain.{plain, PlainNumbered};
-ghost use borrow.Author.Rules.{rules};
+ghost use Rattle.std.proofs.Common.{rules};
 
 use gates::{GateLibrary, Mark};
 use rules::numbered;
