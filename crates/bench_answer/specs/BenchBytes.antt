@@ -1,5 +1,5 @@
 -- The bytes that the bench answers to a text.
-use Rattle.std.specs.Prelude.{◌≡◌, ℕ, cond, List, [], ◌∷◌, ◌++◌, codes, decimal, ◌==◌}
+use Rattle.std.specs.Prelude.{◌≡◌, ℕ, List, [], ◌∷◌, ◌++◌, codes, decimal}
 use Rattle.gates.specs.Told.{Told}
 use Rattle.record.specs.Boards.{Board}
 use Rattle.record.specs.Calls.{sheet_of}
@@ -7,11 +7,8 @@ use Rattle.record.specs.Runs.{Ran}
 use Rattle.gate_list_format.specs.Slots.{Outcome, accepted, refused}
 use Rattle.gate_list_format.specs.Lists.{GateList}
 use Rattle.gate_list_format.specs.Reading.{admitted}
+use Rattle.gate_list.specs.Refusals.{refuser}
 use Rattle.list_record.specs.ListBoards.{board_of_list}
-
--- the record's refusals have the number 2
-abbrev pub refuser : ℕ → List ℕ
-refuser n = cond (n == 2) (codes " record line ") (codes " text line ")
 
 -- a refusal's number, who refuses, and the line
 abbrev pub refusal_text : ℕ → ℕ → List ℕ

@@ -1,7 +1,7 @@
 //! The bench's answer to a gate list: its sheet, or why it is refused, as bytes.
 #![tactic(auto)]
 
-ghost use Rattle.std.specs.Prelude.{◌≡◌, [], ◌∷◌, ◌++◌, IfOk, None, string_bytes, codes, decimal};
+ghost use Rattle.std.specs.Prelude.{◌≡◌, IfOk, None};
 ghost use Rattle.circuit.specs.Wiring.{first_unjoined};
 ghost use Rattle.gate_list.specs.Refusals.{refusal_number, refusal_line};
 ghost use Rattle.list_record.specs.Entering.{list_board};
@@ -10,21 +10,18 @@ ghost use Rattle.bench_answer.specs.BenchBytes.{BenchBytes, SheetAfterRun, refus
 use gate_list::Refusal;
 use gate_list_names::{GateEntry, InputEntry};
 use gates::Complement;
-use list_record::read_list;
+use list_record::{ListRecord, read_list};
 use plain_gates::PlainGates;
-use record::record::Record;
+use sheet::LONGEST;
 use std::alloc::{AllocError, Global};
-
-/// The most bytes that a sheet has.
-const MOST_BYTES: usize = 1565;
 
 /// The sheet of a gate list after a run, or a line that says why it is refused.
 pub fn bench(heap: Global, text: &[u8]) -> Result<Vec<u8>, AllocError>
     ensures { IfOk result (λ bytes. BenchBytes text.now bytes.items) }
 {
-    let mut board = Record::open(heap, Complement { below: PlainGates })?;
-    let mut inputs = [InputEntry::BLANK; 32];
-    let mut gates = [GateEntry::BLANK; 96];
+    let mut board = ListRecord::open(heap, Complement { below: PlainGates })?;
+    let mut inputs = [InputEntry::default(); 32];
+    let mut gates = [GateEntry::default(); 96];
     match read_list(&mut board, text, &mut inputs[..], &mut gates[..]) {
         Ok(()) => sheet_bytes(heap, &mut board),
         Err(refusal) => refusal_bytes(heap, refusal),
@@ -32,15 +29,12 @@ pub fn bench(heap: Global, text: &[u8]) -> Result<Vec<u8>, AllocError>
 }
 
 /// The sheet of a record whose pins are all joined.
-fn sheet_bytes(
-    heap: Global,
-    board: &mut Record<Complement<PlainGates>>,
-) -> Result<Vec<u8>, AllocError>
+fn sheet_bytes(heap: Global, board: &mut ListRecord) -> Result<Vec<u8>, AllocError>
     requires { first_unjoined (list_board board.old).circuit ≡ None }
     ensures { IfOk result (λ bytes. SheetAfterRun (list_board board.old) bytes.items) }
 {
     let Ok(_) = board.run() else { unreachable() };
-    let mut buffer = [0u8; MOST_BYTES];
+    let mut buffer = [0u8; LONGEST];
     let Ok(length) = board.sheet(&mut buffer[..]) else {
         unreachable()
     };
@@ -51,22 +45,5 @@ fn sheet_bytes(
 fn refusal_bytes(heap: Global, refusal: Refusal) -> Result<Vec<u8>, AllocError>
     ensures { IfOk result (λ bytes. bytes.items ≡ refusal_text (refusal_number refusal) (refusal_line refusal)) }
 {
-    let number = refusal.number();
-    let line = refusal.line();
-    if refusal.is_records() {
-        return Ok(record_line(heap, number, line)?.into_bytes());
-    }
-    Ok(text_line(heap, number, line)?.into_bytes())
-}
-
-fn record_line(heap: Global, number: u8, line: usize) -> Result<String, AllocError>
-    ensures { IfOk result (λ text. string_bytes text ≡ codes "refused " ++ (decimal number ++ (codes " record line " ++ (decimal line ++ (10 ∷ []))))) }
-{
-    format!(in heap; "refused {number} record line {line}\n")
-}
-
-fn text_line(heap: Global, number: u8, line: usize) -> Result<String, AllocError>
-    ensures { IfOk result (λ text. string_bytes text ≡ codes "refused " ++ (decimal number ++ (codes " text line " ++ (decimal line ++ (10 ∷ []))))) }
-{
-    format!(in heap; "refused {number} text line {line}\n")
+    Ok(format!(in heap; "{refusal}\n")?.into_bytes())
 }

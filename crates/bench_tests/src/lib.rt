@@ -5,6 +5,8 @@ use bench_answer::bench;
 use std::alloc::{AllocError, Global};
 
 #[cfg(test)]
+mod asserted;
+#[cfg(test)]
 mod faults;
 #[cfg(test)]
 mod replaced;

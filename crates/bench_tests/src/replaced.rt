@@ -14,11 +14,11 @@ const LATCH: &[u8] =
 #[test]
 fn an_accepted_list_replaces_the_record(rt: HostRuntime) -> Result<(), Fail> {
     let mut board = Record::open(rt.alloc(), Complement { below: PlainGates })?;
-    let mut inputs = [InputEntry::BLANK; 40];
-    let mut gates = [GateEntry::BLANK; 100];
+    let mut inputs = [InputEntry::default(); 40];
+    let mut gates = [GateEntry::default(); 100];
     inputs[39].place = 7;
     assert!(rt; read_list(&mut board, LATCH, &mut inputs[..], &mut gates[..]).is_ok());
-    assert!(rt; matches!(board.run(), Ok((4, 2, 4))));
+    assert_eq!(rt; board.run(), Ok((4, 2, 4)));
     assert!(rt; inputs[1].place == 17 && inputs[39].place == 0 && gates[1].kind == 19);
     assert!(rt;
         read_list(
@@ -30,8 +30,8 @@ fn an_accepted_list_replaces_the_record(rt: HostRuntime) -> Result<(), Fail> {
         .is_ok()
     );
     let mut sheet = [0u8; 100];
-    assert!(rt; matches!(board.sheet(&mut sheet[..]), Err(Refusal::NoMarks)));
-    assert!(rt; matches!(board.run(), Ok((0, 0, 0))));
+    assert_eq!(rt; board.sheet(&mut sheet[..]), Err(Refusal::NoMarks));
+    assert_eq!(rt; board.run(), Ok((0, 0, 0)));
     assert!(rt; inputs[1].length == 0 && gates[1].kind == 0);
     Ok(())
 }
@@ -39,11 +39,11 @@ fn an_accepted_list_replaces_the_record(rt: HostRuntime) -> Result<(), Fail> {
 #[test]
 fn a_refused_list_leaves_an_empty_record(rt: HostRuntime) -> Result<(), Fail> {
     let mut board = Record::open(rt.alloc(), Complement { below: PlainGates })?;
-    let mut inputs = [InputEntry::BLANK; 32];
-    let mut gates = [GateEntry::BLANK; 96];
+    let mut inputs = [InputEntry::default(); 32];
+    let mut gates = [GateEntry::default(); 96];
     assert!(rt; read_list(&mut board, LATCH, &mut inputs[..], &mut gates[..]).is_ok());
     assert!(rt; read_list(&mut board, b"inputs 1\n", &mut inputs[..], &mut gates[..]).is_err());
-    assert!(rt; matches!(board.run(), Ok((0, 0, 0))));
+    assert_eq!(rt; board.run(), Ok((0, 0, 0)));
     assert!(rt; inputs[0].length == 0 && gates[0].length == 0);
     Ok(())
 }
@@ -64,6 +64,6 @@ fn short_tables_stay(rt: HostRuntime) -> Result<(), Fail> {
     }; 95];
     assert!(rt; read_list(&mut board, LATCH, &mut inputs[..], &mut gates[..]).is_err());
     assert!(rt; inputs[31].place == 9 && gates[94].kind == 19);
-    assert!(rt; matches!(board.run(), Ok((0, 0, 0))));
+    assert_eq!(rt; board.run(), Ok((0, 0, 0)));
     Ok(())
 }

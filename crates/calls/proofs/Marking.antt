@@ -1,18 +1,24 @@
 -- The marks of a run are those that the passes come to after as many steps as there are signals.
 use Rattle.std.proofs.Common.{◌≡◌, ℕ, zero, suc, ◌<◌, ◌≤◌, List, map, length, Some, None, Option, sym, ap, ◌∙◌, subst, ⊎_elim, arith}
 use Rattle.std.proofs.lemmas.Bool.{cases_lt}
+use Rattle.std.proofs.lemmas.List.{length-map}
 use Rattle.gates.specs.declared.Mark.{Mark}
 use Rattle.gates.specs.Marks.{settled}
-use Rattle.gates.specs.Told.{Stop, Told, answer, left_by}
+use Rattle.gates.specs.Told.{Stop, Told, answer, refused, left_by}
 use Rattle.circuit.specs.declared.passes.Pass.TheVariants.{First, Second}
 use Rattle.circuit.specs.Circuits.{size}
 use Rattle.circuit.specs.Passes.{stepped, iterate, Ends, Run, open_count}
-use Rattle.circuit.proofs.Runs.{run_exists}
+use Rattle.circuit.proofs.Runs.{run_exists, ends_long}
 use Rattle.circuit.proofs.Steps.{steps_few}
 use Rattle.record.specs.Boards.{Board, marked}
 use Rattle.record.specs.Runs.{RunOrStop}
-use Rattle.calls.specs.Tellings.{Given, counts, told_as}
+use Rattle.calls.specs.Tellings.{Given, counts}
 use Rattle.calls.specs.Effects.{first_marks, second_marks, CountedOrStop}
+
+-- what a call gives, of what the record tells
+abbrev pub told_as : {A : Type 0} → (A → Given) → Told A → Told Given
+told_as give (answer a) = answer (give a)
+told_as give (refused s) = refused s
 
 module _ {A : Type 0} (f : A → A) (x : A) where
   -- where a step changes nothing, further steps change nothing
@@ -48,6 +54,12 @@ module _ (b : Board) (long : length b.state ≡ size b.circuit) where
 
   pub marks_run : (n k : ℕ) × Run b.kinds b.circuit b.state n (first_marks b) k (second_marks b)
   marks_run = let r = run_exists b.kinds b.circuit b.state long in (r.0, r.1, run_marks r.0 r.1 r.2.0 r.2.1 r.2.2)
+
+  pub firsts_long : length (first_marks b) ≡ size b.circuit
+  firsts_long = let r = marks_run in ends_long b.kinds b.circuit First r.0 (map settled b.state) (first_marks b) (length-map b.state settled ∙ long) r.2.first
+
+  pub seconds_long : length (second_marks b) ≡ size b.circuit
+  seconds_long = let r = marks_run in ends_long b.kinds b.circuit Second r.1 (first_marks b) (second_marks b) firsts_long r.2.second
 
   -- what the record's run answers and leaves
   pub ran_counted : (stop : Option Stop) (t : Told (ℕ × ℕ × ℕ)) (new : Board) (told : Told Given) → RunOrStop stop b t new → told ≡ told_as counts t

@@ -1,17 +1,13 @@
 -- Two sheets are equal exactly if the boards are alike.
-use Rattle.std.proofs.Common.{◌≡◌, ℕ, ◌<◌, ◌≤◌, Bool, true, false, ◌↔◌, List, map, length, get_or, sym, refl, ap, ◌∙◌, subst, ap₂, arith}
+use Rattle.std.proofs.Common.{◌≡◌, ℕ, ◌<◌, ◌≤◌, Bool, true, false, ◌↔◌, List, length, get_or, sym, refl, ap, ◌∙◌, subst, ap₂, arith}
 use mathlib.Core.Bool.{false≢true}
-use lib.ListN.{length-map}
 use Rattle.std.proofs.lemmas.List.{ext_get_or}
 use Rattle.gates.specs.declared.Mark.{Mark}
 use Rattle.gates.specs.declared.Mark.TheVariants.{Zero, One, Unknown}
-use Rattle.gates.specs.Marks.{settled, covers}
+use Rattle.gates.specs.Marks.{covers}
 use Rattle.circuit.specs.declared.Signal.{Signal}
 use Rattle.circuit.specs.declared.Signal.TheVariants as signal
-use Rattle.circuit.specs.declared.passes.Pass.TheVariants.{First, Second}
 use Rattle.circuit.specs.Circuits.{Circuit, Has, size, place, signal_at}
-use Rattle.circuit.specs.Passes.{Run}
-use Rattle.circuit.proofs.Runs.{ends_long}
 use Rattle.races.specs.Exact.{mark, Tells, Whole, Exact}
 use Rattle.races.proofs.Exact.{marks_exact}
 use Rattle.races.proofs.Places.{placed}
@@ -20,6 +16,7 @@ use Rattle.sheet.proofs.Sheets.{sheet_injective}
 use Rattle.record.specs.Boards.{Board}
 use Rattle.calls.specs.Effects.{first_marks, second_marks}
 use Rattle.calls.specs.Promises.{Along, Lastly, Alike}
+use Rattle.calls.proofs.Marking.{marks_run, firsts_long, seconds_long}
 
 -- a mark covers the open values that it tells
 tells_covers : (O : Bool → Type 0) (m : Mark) → Tells O m → (v : Bool) → (covers m v ≡ true) ↔ O v
@@ -55,33 +52,24 @@ tell_same O P m n t u e v = both (back (tells_covers O m t v)) (both (subst (λ 
 same_tell : (O P : Bool → Type 0) (m n : Mark) → Tells O m → Tells P n → ((v : Bool) → O v ↔ P v) → m ≡ n
 same_tell O P m n t u h = covers_same m n (λ v. both (tells_covers O m t v) (both (h v) (back (tells_covers P n u v))))
 
--- a board with every pin joined, and its run
+-- a board with every pin joined
 pub record Ready (b : Board) : Type 0 where
   pub whole : Whole b.circuit b.state
   pub few : size b.circuit ≤ 512
-  pub first_steps : ℕ
-  pub second_steps : ℕ
-  pub run : Run b.kinds b.circuit b.state first_steps (first_marks b) second_steps (second_marks b)
 
 abbrev pub sheet_text : Board → List ℕ
 sheet_text b = text.sheet (length b.circuit.applied) (length b.circuit.gates) (first_marks b) (second_marks b)
 
 module _ (b : Board) (r : Ready b) where
-  pub firsts_long : length (first_marks b) ≡ size b.circuit
-  firsts_long = ends_long b.kinds b.circuit First r.first_steps (map settled b.state) (first_marks b) (length-map b.state settled ∙ r.whole.long) r.run.first
-
-  pub seconds_long : length (second_marks b) ≡ size b.circuit
-  seconds_long = ends_long b.kinds b.circuit Second r.second_steps (first_marks b) (second_marks b) firsts_long r.run.second
-
   pub sheeted : text.Sheeted (length b.circuit.applied) (length b.circuit.gates) (first_marks b) (second_marks b)
   sheeted =
-      let f = firsts_long in
-      let s = seconds_long in
+      let f = firsts_long b r.whole.long in
+      let s = seconds_long b r.whole.long in
       let few = r.few in
       record { enough = omega arith; level = f ∙ sym s; few = omega arith }
 
   pub exact : (x : Signal) → Has b.circuit x → Exact b.kinds b.circuit b.state (first_marks b) (second_marks b) x
-  exact = marks_exact b.kinds b.circuit b.state r.first_steps r.second_steps (first_marks b) (second_marks b) r.whole r.run
+  exact = let run = marks_run b r.whole.long in marks_exact b.kinds b.circuit b.state run.0 run.1 (first_marks b) (second_marks b) r.whole run.2
 
 pub record SameCounts (c d : Circuit) : Type 0 where
   pub inputs : length c.applied ≡ length d.applied
@@ -115,8 +103,8 @@ module _ (a b : Board) (r : Ready a) (q : Ready b) where
       let p = ap length t.2 in
       let i = t.0 in
       let g = t.1 in
-      let l = firsts_long a r in
-      let m = firsts_long b q in
+      let l = firsts_long a r.whole.long in
+      let m = firsts_long b q.whole.long in
       let s : SameCounts a.circuit b.circuit = record { inputs = t.0; gates = t.1; wires = omega arith } in
       record {
         inputs = t.0;
@@ -132,9 +120,9 @@ module _ (a b : Board) (r : Ready a) (q : Ready b) where
       (sheet_injective _ _ _ _ (first_marks a) (second_marks a) (first_marks b) (second_marks b) (sheeted a r) (sheeted b q)).1 (
         t.inputs,
         t.gates,
-        marks_same a.circuit b.circuit s (first_marks a) (first_marks b) (firsts_long a r) (firsts_long b q)
+        marks_same a.circuit b.circuit s (first_marks a) (first_marks b) (firsts_long a r.whole.long) (firsts_long b q.whole.long)
             (λ x h. same_tell (Along a x) (Along b x) _ _ (exact a r x h).races (exact b q x (has_same _ _ s x h)).races (t.along x h)),
-        marks_same a.circuit b.circuit s (second_marks a) (second_marks b) (seconds_long a r) (seconds_long b q)
+        marks_same a.circuit b.circuit s (second_marks a) (second_marks b) (seconds_long a r.whole.long) (seconds_long b q.whole.long)
             (λ x h. same_tell (Lastly a x) (Lastly b x) _ _ (exact a r x h).outcome (exact b q x (has_same _ _ s x h)).outcome (t.lastly x h)),
       )
 

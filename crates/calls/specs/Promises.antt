@@ -1,5 +1,5 @@
 -- The whole promise of a list of calls on one record.
-use Rattle.std.specs.Prelude.{◌≡◌, ℕ, ◌+◌, ◌<◌, ◌≤◌, Bool, ◌↔◌, List, length, Vec, slice_index_or}
+use Rattle.std.specs.Prelude.{◌≡◌, ℕ, ◌+◌, ◌<◌, ◌≤◌, Bool, ◌↔◌, List, length, Ok, Vec, slice_index_or, Result}
 use Rattle.std.specs.declared.alloc.Global.{Global}
 use Rattle.gates.specs.declared.Mark.{Mark}
 use Rattle.gates.specs.Kinds.{Kind}
@@ -10,6 +10,7 @@ use Rattle.circuit.specs.Passes.{open_count, settled_count}
 use Rattle.races.specs.Races.{State, Stable, Race, Reachable, Outcome}
 use Rattle.races.specs.Exact.{Open, Exact}
 use Rattle.sheet.specs.Sheets as text
+use Rattle.record.specs.declared.Refusal.{Refusal}
 use Rattle.record.specs.Boards.{Board}
 use Rattle.calls.specs.declared.Call.{Call}
 use Rattle.calls.specs.declared.Call.TheVariants as call
@@ -49,10 +50,10 @@ pub record ComesTo (b : Board) (t : State) : Type 0 where
   pub stable : (x : Signal) → Has b.circuit x → Stable b.kinds b.circuit t x
 
 -- what answer i tells
-abbrev pub telling : List Answer → ℕ → Told Given
-telling answers i = told_of (slice_index_or answers i given.Done)
+abbrev pub telling : List (Result Answer Refusal) → ℕ → Told Given
+telling answers i = told_of (slice_index_or answers i (Ok given.Done))
 
-pub record Promise (ks : List Kind) (calls : List Call) (answers : List Answer) : Type 0 where
+pub record Promise (ks : List Kind) (calls : List Call) (answers : List (Result Answer Refusal)) : Type 0 where
   -- there is one answer for each call
   pub count : length answers ≡ length calls
   -- each is the answer, or the one refusal, that is defined on the board at that call

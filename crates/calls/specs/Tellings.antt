@@ -1,8 +1,9 @@
 -- What an answer tells: the number of a refusal with its values, or what the call gives.
-use Rattle.std.specs.Prelude.{ℕ, Bool, List, vec_items}
+use Rattle.std.specs.Prelude.{ℕ, Bool, List, vec_items, Ok, Err, Result}
 use Rattle.gates.specs.declared.Mark.{Mark}
 use Rattle.gates.specs.Told.{Told, answer, refused}
 use Rattle.record.specs.Answers.{stop_of}
+use Rattle.record.specs.declared.Refusal.{Refusal}
 use Rattle.calls.specs.declared.Answer.{Answer}
 use Rattle.calls.specs.declared.Answer.TheVariants as given
 
@@ -19,15 +20,16 @@ pub data Given : Type 0 where
   -- the bytes of a sheet
   sheet : List ℕ → Given
 
-abbrev pub told_of : Answer → Told Given
-told_of (given.Refused r) = refused (stop_of r)
-told_of (given.Number n) = answer (number n)
-told_of given.Done = answer done
-told_of (given.Unstable b) = answer (unstable b)
-told_of (given.Ran n k left) = answer (counts (n, k, left))
-told_of (given.Marks m n) = answer (marks (m, n))
-told_of (given.Sheet bytes) = answer (sheet (vec_items bytes))
+-- what an answer gives
+abbrev pub given_of : Answer → Given
+given_of (given.Number n) = number n
+given_of given.Done = done
+given_of (given.Unstable b) = unstable b
+given_of (given.Ran n k left) = counts (n, k, left)
+given_of (given.Marks m n) = marks (m, n)
+given_of (given.Sheet bytes) = sheet (vec_items bytes)
 
-abbrev pub told_as : {A : Type 0} → (A → Given) → Told A → Told Given
-told_as give (answer a) = answer (give a)
-told_as give (refused s) = refused s
+-- a refusal tells its number and its values
+abbrev pub told_of : Result Answer Refusal → Told Given
+told_of (Ok a) = answer (given_of a)
+told_of (Err r) = refused (stop_of r)

@@ -3,10 +3,10 @@
 
 ghost use Rattle.std.specs.Prelude.{◌≡◌, length, IfOk, OnOk};
 ghost use Rattle.gates.specs.Told.{told_by};
-ghost use Rattle.record.specs.Answers.{told};
+ghost use Rattle.record.specs.Boards.{Sound};
 ghost use Rattle.record.specs.Calls.{sheet_stop, sheet_of};
 ghost use Rattle.record.specs.Views.{board_of};
-ghost use Rattle.calls.specs.Tellings.{told_of, told_as, number, done, unstable, counts, marks, sheet};
+ghost use Rattle.calls.specs.Tellings.{told_of, sheet};
 ghost use Rattle.calls.specs.Effects.{effect, Answered};
 ghost use Rattle.calls.specs.Promises.{Promise};
 
@@ -14,6 +14,7 @@ use circuit::Signal;
 use gates::{GateLibrary, Mark};
 use record::Refusal;
 use record::record::Record;
+use sheet::LONGEST;
 use std::alloc::{AllocError, Global};
 
 /// A call on a record, with its arguments.
@@ -37,10 +38,9 @@ pub enum Call {
     Sheet(usize),
 }
 
-/// What a call answers.
+/// What a call answers that is not refused.
 #[derive(Drop)]
 pub enum Answer {
-    Refused(Refusal),
     /// Of a new input or gate.
     Number(usize),
     Done,
@@ -57,7 +57,7 @@ pub fn answer_all<L: GateLibrary + Drop>(
     heap: Global,
     library: L,
     calls: &[Call],
-) -> Result<Vec<Answer>, AllocError>
+) -> Result<Vec<Result<Answer, Refusal>>, AllocError>
     ensures { IfOk result (λ answers. Promise (L.GateLibrary.kinds library) calls.now answers.items) }
 {
     let mut held = Record::open(heap, library)?;
@@ -73,97 +73,46 @@ fn perform<L: GateLibrary>(
     heap: Global,
     held: &mut Record<L>,
     call: &Call,
-) -> Result<Answer, AllocError>
-    ensures answer { IfOk result (λ a. Answered (board_of L.GateLibrary.kinds held.old) call.now (told_of a)) }
-    ensures after { OnOk result (board_of L.GateLibrary.kinds held.new ≡ effect (board_of L.GateLibrary.kinds held.old) call.now) }
+) -> Result<Result<Answer, Refusal>, AllocError>
+    ensures sound { OnOk result (Sound (board_of L.GateLibrary.kinds held.old)) }
+    ensures answer { let b = board_of L.GateLibrary.kinds held.old in IfOk result (λ a. Answered b call.now (told_of a)) }
+    ensures after { let b = board_of L.GateLibrary.kinds held.old in OnOk result (board_of L.GateLibrary.kinds held.new ≡ effect b call.now) }
 {
+    held.sound();
     match call {
-        Call::AddInput => Ok(Answer::of_number(held.add_input())),
-        Call::AddGate(kind) => Ok(Answer::of_number(held.add_gate(*kind))),
-        Call::Join(gate, pin, source) => Ok(Answer::of_done(held.join(*gate, *pin, *source))),
-        Call::SetInput(input, bit) => Ok(Answer::of_done(held.set_input(*input, *bit))),
-        Call::SetSignal(signal, bit) => Ok(Answer::of_done(held.set_signal(*signal, *bit))),
-        Call::Unstable(signal) => Ok(Answer::of_unstable(held.unstable(*signal))),
-        Call::Fire(signals) => Ok(Answer::of_done(held.fire(signals))),
-        Call::Run => Ok(Answer::of_counts(held.run())),
-        Call::Marks(signal) => Ok(Answer::of_marks(held.marks(*signal))),
-        Call::Adopt => Ok(Answer::of_done(held.adopt())),
+        Call::AddInput => Ok(held.add_input().map(Answer::Number)),
+        Call::AddGate(kind) => Ok(held.add_gate(*kind).map(Answer::Number)),
+        Call::Join(gate, pin, source) => Ok(held.join(*gate, *pin, *source).map(|()| Answer::Done)),
+        Call::SetInput(input, bit) => Ok(held.set_input(*input, *bit).map(|()| Answer::Done)),
+        Call::SetSignal(signal, bit) => Ok(held.set_signal(*signal, *bit).map(|()| Answer::Done)),
+        Call::Unstable(signal) => Ok(held.unstable(*signal).map(Answer::Unstable)),
+        Call::Fire(signals) => Ok(held.fire(signals).map(|()| Answer::Done)),
+        Call::Run => Ok(
+            held.run()
+                .map(|(first, second, open)| Answer::Ran(first, second, open)),
+        ),
+        Call::Marks(signal) => Ok(
+            held.marks(*signal)
+                .map(|(first, second)| Answer::Marks(first, second)),
+        ),
+        Call::Adopt => Ok(held.adopt().map(|()| Answer::Done)),
         Call::Sheet(room) => sheet_for(heap, held, *room),
     }
 }
 
-// No sheet is longer.
-const LONGEST_SHEET: usize = 1565;
-
+// Only the sheet itself takes memory.
 fn sheet_for<L: GateLibrary>(
     heap: Global,
     held: &Record<L>,
     room: usize,
-) -> Result<Answer, AllocError>
-    ensures { IfOk result (λ a. told_of a ≡ told_by (sheet_stop (board_of L.GateLibrary.kinds held.now) room) (sheet (sheet_of (board_of L.GateLibrary.kinds held.now)))) }
+) -> Result<Result<Answer, Refusal>, AllocError>
+    ensures { let b = board_of L.GateLibrary.kinds held.now in IfOk result (λ a. told_of a ≡ told_by (sheet_stop b room) (sheet (sheet_of b))) }
 {
-    let mut page = [0; LONGEST_SHEET];
-    let end = room.min(LONGEST_SHEET);
-    copied_sheet(heap, held, &mut page[0..end])
-}
-
-// Only the sheet itself takes memory.
-fn copied_sheet<L: GateLibrary>(
-    heap: Global,
-    held: &Record<L>,
-    page: &mut [u8],
-) -> Result<Answer, AllocError>
-    ensures { IfOk result (λ a. told_of a ≡ told_by (sheet_stop (board_of L.GateLibrary.kinds held.now) (length page.old)) (sheet (sheet_of (board_of L.GateLibrary.kinds held.now)))) }
-{
-    match held.sheet(page) {
-        Ok(length) => Ok(Answer::Sheet(Vec::from_slice(heap, &page[0..length])?)),
-        Err(refusal) => Ok(Answer::Refused(refusal)),
-    }
-}
-
-impl Answer {
-    fn of_number(res: Result<usize, Refusal>) -> Answer
-        ensures { told_of result ≡ told_as number (told res) }
-    {
-        match res {
-            Ok(number) => Answer::Number(number),
-            Err(refusal) => Answer::Refused(refusal),
-        }
-    }
-
-    fn of_done(res: Result<(), Refusal>) -> Answer
-        ensures { told_of result ≡ told_as (λ _. done) (told res) }
-    {
-        match res {
-            Ok(()) => Answer::Done,
-            Err(refusal) => Answer::Refused(refusal),
-        }
-    }
-
-    fn of_unstable(res: Result<bool, Refusal>) -> Answer
-        ensures { told_of result ≡ told_as unstable (told res) }
-    {
-        match res {
-            Ok(unstable) => Answer::Unstable(unstable),
-            Err(refusal) => Answer::Refused(refusal),
-        }
-    }
-
-    fn of_counts(res: Result<(usize, usize, usize), Refusal>) -> Answer
-        ensures { told_of result ≡ told_as counts (told res) }
-    {
-        match res {
-            Ok((first_steps, second_steps, open)) => Answer::Ran(first_steps, second_steps, open),
-            Err(refusal) => Answer::Refused(refusal),
-        }
-    }
-
-    fn of_marks(res: Result<(Mark, Mark), Refusal>) -> Answer
-        ensures { told_of result ≡ told_as marks (told res) }
-    {
-        match res {
-            Ok((first, second)) => Answer::Marks(first, second),
-            Err(refusal) => Answer::Refused(refusal),
-        }
+    held.sound();
+    let mut page = [0; LONGEST];
+    let end = room.min(LONGEST);
+    match held.sheet(&mut page[..end]) {
+        Ok(length) => Ok(Ok(Answer::Sheet(Vec::from_slice(heap, &page[..length])?))),
+        Err(refusal) => Ok(Err(refusal)),
     }
 }

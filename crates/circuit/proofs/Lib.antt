@@ -1,6 +1,7 @@
 pub mod Wired
 pub mod Unjoined
 pub mod Functions
+pub mod Same
 pub mod Orders
 pub mod Falls
 pub mod Sections

@@ -1,8 +1,11 @@
 -- Both passes end, at one place.
-use Rattle.std.proofs.Common.{◌≡◌, ℕ, zero, suc, ◌<◌, ◌≤◌, List, [], ◌∷◌, map, length, sym, refl, ap, ◌∙◌, subst, arith}
+use Rattle.std.proofs.Common.{◌≡◌, ℕ, zero, suc, ◌<◌, ◌≤◌, Bool, true, false, Decides, List, map, length, sym, refl, ap, ◌∙◌, subst, arith}
+use Rattle.std.specs.Cmp.Lexicographic.{pointwise}
+use Rattle.std.proofs.lemmas.Bool.{false≢true}
+use denote.Enum.Bare.{sameb}
 use lib.ListN.{length-map}
 use Rattle.gates.specs.declared.Mark.{Mark}
-use Rattle.gates.specs.declared.Mark.TheVariants.{Zero, One, Unknown}
+use Rattle.gates.specs.contracts.Mark.{the_type}
 use Rattle.gates.specs.Marks.{settled}
 use Rattle.gates.specs.Kinds.{Kind}
 use Rattle.circuit.specs.Circuits.{Circuit, size}
@@ -11,6 +14,7 @@ use Rattle.circuit.specs.declared.passes.Pass.TheVariants.{First, Second}
 use Rattle.circuit.specs.Passes.{stepped, iterate, Ends, Shrinks, RunExists, RunUnique}
 use Rattle.circuit.proofs.Falls.{weight, total, falls, shrinks_on, shrinks_from, length-stepped}
 use Rattle.circuit.proofs.Steps.{clash}
+use Rattle.circuit.proofs.Same.{marks_same}
 
 -- ends are where they are
 module _ {A : Type 0} (f : A → A) (from : A) where
@@ -30,32 +34,12 @@ run_unique ks c start n n' k k' f f' g g' r r' =
     let two = ends_unique (stepped Second ks c) f' k k' g g' (subst (λ ms. Ends (stepped Second ks c) ms k g) one.1 r.second) r'.second in
     (one.0, one.1, two.0, two.1)
 
-abbrev code : Mark → ℕ
-code Zero = 0
-code One = 1
-code Unknown = 2
-
-mark_discrete : (m n : Mark) → Dec (m ≡ n)
-mark_discrete Zero Zero = yes refl
-mark_discrete Zero One = no (λ e. let l = ap code e in omega arith)
-mark_discrete Zero Unknown = no (λ e. let l = ap code e in omega arith)
-mark_discrete One Zero = no (λ e. let l = ap code e in omega arith)
-mark_discrete One One = yes refl
-mark_discrete One Unknown = no (λ e. let l = ap code e in omega arith)
-mark_discrete Unknown Zero = no (λ e. let l = ap code e in omega arith)
-mark_discrete Unknown One = no (λ e. let l = ap code e in omega arith)
-mark_discrete Unknown Unknown = yes refl
-
 marks_discrete : (ms ns : List Mark) → Dec (ms ≡ ns)
-marks_discrete [] [] = yes refl
-marks_discrete [] (n ∷ ns) = no (λ e. let l = ap length e in omega arith)
-marks_discrete (m ∷ ms) [] = no (λ e. let l = ap length e in omega arith)
-marks_discrete (m ∷ ms) (n ∷ ns) = by (mark_discrete m n) (marks_discrete ms ns)
+marks_discrete ms ns = by (pointwise (sameb the_type) ms ns) (marks_same ms ns _ refl)
   where
-    by : Dec (m ≡ n) → Dec (ms ≡ ns) → Dec (m ∷ ms ≡ n ∷ ns)
-    by (yes p) (yes q) = yes (ap (λ x. x ∷ ms) p ∙ ap (λ l. n ∷ l) q)
-    by (yes p) (no q) = no (λ e. q cc)
-    by (no p) d = no (λ e. p cc)
+    by : (b : Bool) → Decides b (ms ≡ ns) → Dec (ms ≡ ns)
+    by true same = yes (same.0 refl)
+    by false same = no (λ e. false≢true (same.1 e))
 
 -- one step before
 module _ {A : Type 0} (f : A → A) where

@@ -1,90 +1,48 @@
 -- The first unjoined pin, searched gate by gate and pin by pin.
-use Rattle.std.proofs.Common.{◌≡◌, ℕ, zero, suc, ◌+◌, ◌-◌, ◌<◌, ◌≤◌, true, false, List, [], ◌∷◌, length, get_or, take, drop, is_some, Some, None, Option, sym, refl, ap, ◌∙◌, subst, ⊎_elim, true≢false, arith}
-use mathlib.Core.Bool.{false≢true}
+use Rattle.std.proofs.Common.{◌≡◌, ℕ, zero, suc, ◌+◌, ◌-◌, ◌<◌, ◌≤◌, List, [], ◌∷◌, length, get_or, take, drop, Some, None, Option, sym, refl, ap, ◌∙◌, subst, ⊎_elim, arith}
 use Rattle.std.proofs.lemmas.Bool.{cases_lt}
-use Rattle.std.proofs.lemmas.List.{at_drop_more, get_or_read, at_drop_all, get_or-take, get_or-drop, length-take-le, length-drop}
+use Rattle.std.proofs.lemmas.List.{at_drop_more, at_drop_all, get_or-take, get_or-drop, length-take-le, length-drop}
 use Rattle.circuit.specs.declared.Gate.{Gate}
 use Rattle.circuit.specs.declared.Source.{Source}
 use Rattle.circuit.specs.Circuits.{no_gate}
-use Rattle.circuit.specs.Wiring.{pin_total, Numbered, unjoined_pin, at_gate, unjoined_from, UnjoinedFirst, FirstUnjoinedExact}
-use Rattle.circuit.proofs.Wired.{fits_at, fits}
+use Rattle.circuit.specs.Wiring.{pin_total, unjoined_pin, at_gate, unjoined_from, UnjoinedFirst, FirstUnjoinedExact}
+use Rattle.circuit.proofs.Wired.{fits_at}
 
 -- the sources of a gate's pins
 abbrev pub pins_part : List (Option Source) → Gate → List (Option Source)
 pins_part sources gate = take gate.pins (drop gate.first sources)
 
-pub part_at : (sources : List (Option Source)) (gate : Gate) (p : ℕ) → p < gate.pins → get_or (pins_part sources gate) p None ≡ get_or sources (gate.first + p) None
+part_at : (sources : List (Option Source)) (gate : Gate) (p : ℕ) → p < gate.pins → get_or (pins_part sources gate) p None ≡ get_or sources (gate.first + p) None
 part_at sources gate p h = get_or-take gate.pins (drop gate.first sources) p None h ∙ get_or-drop gate.first sources p None
 
-pub part_length : (sources : List (Option Source)) (gate : Gate) → gate.first + gate.pins ≤ length sources → length (pins_part sources gate) ≡ gate.pins
+part_length : (sources : List (Option Source)) (gate : Gate) → gate.first + gate.pins ≤ length sources → length (pins_part sources gate) ≡ gate.pins
 part_length sources gate h = length-take-le gate.pins (drop gate.first sources) (omega (arith, length-drop gate.first sources))
 
--- one pin on, where it is joined
-pin_joined : (p : ℕ) (o : Option Source) (rest : List (Option Source)) → (o ≡ None → ⊥) → unjoined_pin p (o ∷ rest) ≡ unjoined_pin (suc p) rest
-pin_joined p None rest h = absurd (h refl)
-pin_joined p (Some s) rest h = refl
-
-pub pin_more : (part : List (Option Source)) (p : ℕ) → p < length part → (get_or part p None ≡ None → ⊥) → unjoined_pin p (drop p part) ≡ unjoined_pin (p + 1) (drop (p + 1) part)
-pin_more part p h joined =
-    let e : suc p ≡ p + 1 = omega arith in
-    at_drop_more (unjoined_pin p) part p None h
-    ∙ pin_joined p (get_or part p None) (drop (p + 1) part) joined
-    ∙ ap (λ n. unjoined_pin n (drop (p + 1) part)) e
-
-pub pin_found : (part : List (Option Source)) (p : ℕ) → p < length part → get_or part p None ≡ None → unjoined_pin p (drop p part) ≡ Some p
-pin_found part p h unjoined = at_drop_more (unjoined_pin p) part p None h ∙ ap (λ o. unjoined_pin p (o ∷ drop (p + 1) part)) unjoined
-
-pub pin_none : (part : List (Option Source)) (p : ℕ) → length part ≤ p → unjoined_pin p (drop p part) ≡ None
+pin_none : (part : List (Option Source)) (p : ℕ) → length part ≤ p → unjoined_pin p (drop p part) ≡ None
 pin_none part p h = at_drop_all (unjoined_pin p) part p h
 
 -- one gate on
-pub gate_more : (gates : List Gate) (sources : List (Option Source)) (g : ℕ) → g < length gates
+gate_more : (gates : List Gate) (sources : List (Option Source)) (g : ℕ) → g < length gates
     → unjoined_from g (drop g gates) sources ≡ at_gate g (unjoined_pin 0 (pins_part sources (get_or gates g no_gate))) (unjoined_from (g + 1) (drop (g + 1) gates) sources)
 gate_more gates sources g h =
     let e : suc g ≡ g + 1 = omega arith in
     at_drop_more (λ gs. unjoined_from g gs sources) gates g no_gate h
     ∙ ap (λ n. at_gate g (unjoined_pin 0 (pins_part sources (get_or gates g no_gate))) (unjoined_from n (drop (g + 1) gates) sources)) e
 
-pub gates_none : (gates : List Gate) (sources : List (Option Source)) (g : ℕ) → length gates ≤ g → unjoined_from g (drop g gates) sources ≡ None
-gates_none gates sources g h = at_drop_all (λ gs. unjoined_from g gs sources) gates g h
+-- the sources of the pins of a gate that was read
+pub part_read : (gates gates' : List Gate) (sources sources' : List (Option Source)) (g : ℕ) → gates' ≡ gates → sources' ≡ sources
+    → take ((get_or gates' g no_gate).first + (get_or gates' g no_gate).pins - (get_or gates' g no_gate).first) (drop (get_or gates' g no_gate).first sources') ≡ pins_part sources (get_or gates g no_gate)
+part_read gates gates' sources sources' g e e' =
+    ap (λ n. take n (drop (get_or gates' g no_gate).first sources')) (omega arith)
+    ∙ ap (λ l. pins_part l (get_or gates' g no_gate)) e'
+    ∙ ap (λ gs. pins_part sources (get_or gs g no_gate)) e
 
-is_none : (o : Option Source) → is_some o ≡ false → o ≡ None
-is_none None e = refl
-is_none (Some s) e = absurd (true≢false e)
-
-not_none : (o : Option Source) → is_some o ≡ true → o ≡ None → ⊥
-not_none o e q = false≢true (sym (ap is_some q) ∙ e)
-
--- a gate that was read
-module _ (gates : List Gate) (sources : List (Option Source)) (numbered : Numbered gates (length sources)) (g : ℕ) (x : Gate) (low : g < length gates) (is : x ≡ get_or gates g x) where
-  abbrev part : List (Option Source)
-  part = pins_part sources (get_or gates g no_gate)
-
-  wide : length part ≡ x.pins
-  wide = part_length sources (get_or gates g no_gate) (fits_at gates (length sources) g numbered low) ∙ sym (ap (λ (y : Gate). y.pins) (get_or_read gates g x low is no_gate))
-
-  -- and the source of one of its pins
-  module _ (p : ℕ) (o : Option Source) (in' : p < x.pins) (at : o ≡ get_or sources (x.first + p) o) where
-    read : get_or part p None ≡ o
-    read =
-        let same = get_or_read gates g x low is no_gate in
-        let there = fits gates (length sources) g x numbered low is in
-        part_at sources (get_or gates g no_gate) p (omega (arith, ap (λ (y : Gate). y.pins) same))
-        ∙ ap (λ (y : Gate). get_or sources (y.first + p) None) (sym same)
-        ∙ sym (get_or_read sources (x.first + p) o (omega arith) at None)
-
-    pub pin_passed : is_some o ≡ true → unjoined_pin (p + 1) (drop (p + 1) part) ≡ unjoined_pin p (drop p part)
-    pin_passed some = sym (pin_more part p (omega (arith, wide)) (λ e. not_none o some (sym read ∙ e)))
-
-    pub pin_stopped : is_some o ≡ false → unjoined_pin p (drop p part) ≡ Some p
-    pin_stopped none = pin_found part p (omega (arith, wide)) (read ∙ is_none o none)
-
-  pub gate_passed : (p : ℕ) → x.pins ≤ p → unjoined_pin p (drop p part) ≡ unjoined_pin 0 part → unjoined_from (g + 1) (drop (g + 1) gates) sources ≡ unjoined_from g (drop g gates) sources
-  gate_passed p past so =
-      sym (gate_more gates sources g low ∙ ap (λ o. at_gate g o (unjoined_from (g + 1) (drop (g + 1) gates) sources)) (sym so ∙ pin_none part p (omega (arith, wide))))
-
-  pub gate_stopped : (p : ℕ) → unjoined_pin 0 part ≡ Some p → unjoined_from g (drop g gates) sources ≡ Some (g, p)
-  gate_stopped p so = gate_more gates sources g low ∙ ap (λ o. at_gate g o (unjoined_from (g + 1) (drop (g + 1) gates) sources)) so
+-- a gate whose pins were read, all of them joined
+pub gate_passed : (gates : List Gate) (sources : List (Option Source)) (g : ℕ) → g < length gates → (part : List (Option Source)) → part ≡ pins_part sources (get_or gates g no_gate)
+    → (p : ℕ) → length part ≤ p → unjoined_pin p (drop p part) ≡ unjoined_pin 0 part → unjoined_from (g + 1) (drop (g + 1) gates) sources ≡ unjoined_from g (drop g gates) sources
+gate_passed gates sources g low part is p past so =
+    let none = sym (ap (unjoined_pin 0) is) ∙ sym so ∙ pin_none part p past in
+    sym (gate_more gates sources g low ∙ ap (λ o. at_gate g o (unjoined_from (g + 1) (drop (g + 1) gates) sources)) none)
 
 some_none : {X : Type 0} (x : X) → Some x ≡ None → ⊥
 some_none x e = let z : ◌≡◌ {A = ℕ} 0 1 = cc in omega arith

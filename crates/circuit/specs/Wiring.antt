@@ -1,5 +1,5 @@
 -- How wires are numbered and joined: what every circuit keeps, and the first pin that is not joined yet.
-use Rattle.std.specs.Prelude.{◌≡◌, ℕ, suc, ◌+◌, ◌<◌, List, [], ◌∷◌, length, get_or, take, drop, Some, None, Option, ◌≢◌, slice_index_or}
+use Rattle.std.specs.Prelude.{◌≡◌, ℕ, suc, ◌+◌, ◌<◌, ◌≤◌, List, [], ◌∷◌, length, get_or, take, drop, Some, None, Option, ◌≢◌, slice_index_or}
 use Rattle.circuit.specs.declared.Gate.{Gate}
 use Rattle.circuit.specs.declared.Source.{Source}
 use Rattle.circuit.specs.declared.Source.TheVariants as source
@@ -26,6 +26,11 @@ Sourced inputs gates sources =
 pub record Wired (c : Circuit) : Type 0 where
   pub numbered : Numbered c.gates (length c.sources)
   pub sourced : Sourced (length c.applied) (length c.gates) c.sources
+
+-- what every circuit in tables keeps: there are at most 32 inputs, 96 gates and 384 wires, and they are wired
+pub record Kept (c : Circuit) : Type 0 where
+  pub few : (length c.applied ≤ 32) × (length c.gates ≤ 96) × (length c.sources ≤ 384)
+  pub wired : Wired c
 
 -- every pin is joined
 abbrev pub Joined : Circuit → Type 0

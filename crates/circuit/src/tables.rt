@@ -1,21 +1,28 @@
 //! The tables of a circuit, in memory that is reserved when they are opened.
-ghost use Rattle.std.specs.Prelude.{◌≡◌, ℕ, ◌≤◌, length, vec_len, vec_capacity};
-ghost use Rattle.circuit.specs.Wiring.{Numbered, Sourced};
-
 use super::{Gate, Source};
+use std::marker::Model;
 
 pub mod changes;
 pub mod clearing;
 pub mod excitations;
 pub mod reads;
 
+/// A circuit. Its lists are vectors that stay within the memory reserved at opening.
 #[derive(Drop)]
 pub struct Tables {
     applied: Vec<bool>,
     gates: Vec<Gate>,
     sources: Vec<Option<Source>>,
-    ghost reserved: { (32 ≤ vec_capacity applied) × (96 ≤ vec_capacity gates) × (384 ≤ vec_capacity sources) },
-    ghost few: { (vec_len applied ≤ 32) × (vec_len gates ≤ 96) × (vec_len sources ≤ 384) },
-    ghost numbered: { Numbered gates.items (length sources.items) },
-    ghost sourced: { Sourced (length applied.items) (length gates.items) sources.items },
+}
+
+impl Model for Tables {
+    ghost use Rattle.circuit.specs.Circuits.{Circuit};
+
+    ghost Value = { Circuit };
+
+    ghost use Rattle.circuit.specs.Views.{circuit_of, Keeps};
+
+    ghost view = { circuit_of };
+
+    ghost invariant = { Keeps };
 }

@@ -2,8 +2,9 @@
 #![tactic(auto)]
 
 use calls::{Answer, answer_all};
-use gates::{Complement, Mark};
+use gates::Complement;
 use plain_gates::PlainGates;
+use record::Refusal;
 use script::read_script;
 use std::io;
 use std::io::Write;
@@ -26,26 +27,20 @@ fn run(rt: &HostRuntime) -> anyhow::Result<()> {
     let calls = read_script(rt)?;
     let library = Complement { below: PlainGates };
     let answers = answer_all(rt.alloc(), library, &calls)?;
-    for answer in answers.iter() {
+    for answer in &answers {
         print_answer(rt, answer)?;
     }
     Ok(())
 }
 
-fn print_answer(rt: &HostRuntime, answer: &Answer) -> io::Result<()> {
+fn print_answer(rt: &HostRuntime, answer: &Result<Answer, Refusal>) -> io::Result<()> {
     match answer {
-        Answer::Refused(refusal) => rt.println(refusal),
-        Answer::Number(number) => println!(rt; "number {number}"),
-        Answer::Done => rt.println("done"),
-        Answer::Unstable(unstable) => rt.println(if *unstable { "unstable" } else { "stable" }),
-        Answer::Ran(first, second, open) => println!(rt; "steps {first} {second} open {open}"),
-        Answer::Marks(first, second) => print_marks(rt, *first, *second),
-        Answer::Sheet(bytes) => rt.stdout().write_all(bytes),
+        Ok(Answer::Number(number)) => println!(rt; "number {number}"),
+        Ok(Answer::Done) => rt.println("done"),
+        Ok(Answer::Unstable(unstable)) => rt.println(if *unstable { "unstable" } else { "stable" }),
+        Ok(Answer::Ran(first, second, open)) => println!(rt; "steps {first} {second} open {open}"),
+        Ok(Answer::Marks(first, second)) => println!(rt; "marks {first}{second}"),
+        Ok(Answer::Sheet(bytes)) => rt.stdout().write_all(bytes),
+        Err(refusal) => rt.println(refusal),
     }
-}
-
-fn print_marks(rt: &HostRuntime, first: Mark, second: Mark) -> io::Result<()> {
-    let first = char::from(first.symbol());
-    let second = char::from(second.symbol());
-    println!(rt; "marks {first}{second}")
 }

@@ -8,14 +8,13 @@ use std::alloc::{AllocError, Global};
 pub fn read_script(rt: &HostRuntime) -> anyhow::Result<Vec<Call>> {
     let heap = rt.alloc();
     let mut calls = Vec::new(heap);
-    let mut number = 0u64;
-    for line in rt.lines(heap) {
+    for (i, line) in rt.lines(heap).enumerate() {
         let line = line?;
-        number = number.wrapping_add(1);
         if is_blank(line.as_str()) {
             continue;
         }
         let Some(call) = call_of(heap, line.as_str())? else {
+            let number = i + 1;
             return Err(anyhow!(format!(in heap; "line {number} is not a call")?));
         };
         calls.push(call)?;
@@ -25,78 +24,52 @@ pub fn read_script(rt: &HostRuntime) -> anyhow::Result<Vec<Call>> {
 
 // An empty line or a remark.
 fn is_blank(line: &str) -> bool {
-    match line.split_whitespace().next() {
-        None => true,
-        Some(word) => word.starts_with('#'),
-    }
+    let line = line.trim_start();
+    line.is_empty() || line.starts_with('#')
 }
 
 fn call_of(heap: Global, line: &str) -> Result<Option<Call>, AllocError> {
     let words: Vec<&str> = line.split_whitespace().collect(heap)?;
     match words.as_slice() {
         ["fire", signals @ ..] => fire(heap, signals),
-        [word] => Ok(bare(word)),
-        [word, argument] => Ok(with_one(word, argument)),
-        [word, first, second] => Ok(with_two(word, first, second)),
-        ["join", gate, pin, source] => Ok(join(gate, pin, source)),
-        _ => Ok(None),
+        words => Ok(short_call(words)),
     }
 }
 
 fn fire(heap: Global, words: &[&str]) -> Result<Option<Call>, AllocError> {
-    let mut signals = Vec::new(heap);
-    for word in words {
-        let Some(signal) = signal(word) else {
-            return Ok(None);
-        };
-        signals.push(signal)?;
-    }
-    Ok(Some(Call::Fire(signals)))
+    let signals: Option<Vec<Signal>> = words.iter().map(|word| signal(word)).collect(heap)?;
+    Ok(signals.map(Call::Fire))
 }
 
-fn bare(word: &str) -> Option<Call> {
-    match word {
-        "add_input" => Some(Call::AddInput),
-        "run" => Some(Call::Run),
-        "adopt" => Some(Call::Adopt),
+// A call whose arguments take no memory.
+fn short_call(words: &[&str]) -> Option<Call> {
+    match words {
+        ["add_input"] => Some(Call::AddInput),
+        ["add_gate", kind] => Some(Call::AddGate(kind.parse().ok()?)),
+        ["join", gate, pin, source] => Some(Call::Join(
+            gate.parse().ok()?,
+            pin.parse().ok()?,
+            signal(source)?,
+        )),
+        ["set_input", input, bit] => Some(Call::SetInput(input.parse().ok()?, bit.parse().ok()?)),
+        ["set_signal", place, bit] => Some(Call::SetSignal(signal(place)?, bit.parse().ok()?)),
+        ["unstable", place] => Some(Call::Unstable(signal(place)?)),
+        ["run"] => Some(Call::Run),
+        ["marks", place] => Some(Call::Marks(signal(place)?)),
+        ["adopt"] => Some(Call::Adopt),
+        ["sheet", room] => Some(Call::Sheet(room.parse().ok()?)),
         _ => None,
     }
-}
-
-fn with_one(word: &str, argument: &str) -> Option<Call> {
-    match word {
-        "add_gate" => Some(Call::AddGate(number(argument)?)),
-        "unstable" => Some(Call::Unstable(signal(argument)?)),
-        "marks" => Some(Call::Marks(signal(argument)?)),
-        "sheet" => Some(Call::Sheet(number(argument)?)),
-        _ => None,
-    }
-}
-
-fn with_two(word: &str, place: &str, bit: &str) -> Option<Call> {
-    let bit = bit.parse::<u8>().ok()?;
-    match word {
-        "set_input" => Some(Call::SetInput(number(place)?, bit)),
-        "set_signal" => Some(Call::SetSignal(signal(place)?, bit)),
-        _ => None,
-    }
-}
-
-fn join(gate: &str, pin: &str, source: &str) -> Option<Call> {
-    Some(Call::Join(number(gate)?, number(pin)?, signal(source)?))
-}
-
-fn number(word: &str) -> Option<usize> {
-    word.parse::<usize>().ok()
 }
 
 // An input `x`, a gate `y` or a wire `z`, with its number.
 fn signal(word: &str) -> Option<Signal> {
-    if let Some(rest) = word.strip_prefix('x') {
-        return Some(Signal::Input(number(rest)?));
+    let (letter, number) = word.split_at_checked(1)?;
+    let number = number.parse().ok()?;
+    match letter {
+        "x" => Some(Signal::Input(number)),
+        "y" => Some(Signal::Gate(number)),
+        "z" => Some(Signal::Wire(number)),
+        _ => None,
     }
-    if let Some(rest) = word.strip_prefix('y') {
-        return Some(Signal::Gate(number(rest)?));
-    }
-    Some(Signal::Wire(number(word.strip_prefix('z')?)?))
 }

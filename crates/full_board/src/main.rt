@@ -10,7 +10,7 @@ use std::env;
 
 type Board = Record<Complement<PlainGates>>;
 
-// Kinds of the complementing layer over plain gates.
+// Kinds of the complementing layer over plain gates, by their numbers in the library's list.
 const AND_4: usize = 6;
 
 const OR_4: usize = 22;
@@ -26,30 +26,35 @@ fn enter(board: &mut Board) -> Result<(), Refusal> {
         board.set_signal(Signal::Input(i), (i != 0) as u8)?;
     }
     board.add_gate(OR_4)?;
-    board.join(0, 0, Signal::Input(0))?;
     for _ in 1..GATES {
         board.add_gate(AND_4)?;
     }
+    join_first(board)?;
+    join_others(board)
+}
+
+fn join_first(board: &mut Board) -> Result<(), Refusal> {
+    board.join(0, 0, Signal::Input(0))?;
     for pin in 1..4 {
         board.join(0, pin, Signal::Gate(GATES - 1))?;
     }
+    Ok(())
+}
+
+fn join_others(board: &mut Board) -> Result<(), Refusal> {
     for gate in 1..GATES {
-        join_pins(board, gate)?;
+        board.join(gate, 0, Signal::Gate(gate - 1))?;
+        for pin in 1..4 {
+            board.join(gate, pin, Signal::Input((gate + pin) % 31 + 1))?;
+            board.set_signal(Signal::Wire(4 * gate + pin), 1)?;
+        }
     }
     Ok(())
 }
 
-fn join_pins(board: &mut Board, gate: usize) -> Result<(), Refusal> {
-    board.join(gate, 0, Signal::Gate(gate.saturating_sub(1)))?;
-    for pin in 1..4 {
-        board.join(gate, pin, Signal::Input(gate.saturating_add(pin) % 31 + 1))?;
-        board.set_signal(Signal::Wire(gate.saturating_mul(4).saturating_add(pin)), 1)?;
-    }
-    Ok(())
-}
-
-// Runs the board so many times, and answers the last counts.
-fn repeat(board: &mut Board, times: u32) -> Result<(usize, usize, usize), Refusal> {
+// Enters the board, runs it so many times, and answers the last counts.
+fn run(board: &mut Board, times: u32) -> Result<(usize, usize, usize), Refusal> {
+    enter(board)?;
     let mut counts = board.run()?;
     for _ in 1..times {
         counts = board.run()?;
@@ -57,23 +62,15 @@ fn repeat(board: &mut Board, times: u32) -> Result<(usize, usize, usize), Refusa
     Ok(counts)
 }
 
-fn work(rt: &HostRuntime) -> anyhow::Result<()> {
+fn main(rt: HostRuntime) -> anyhow::Result<()> {
     let mut times = 1;
-    for word in env::args(rt)?.skip(1) {
+    for word in env::args(&rt)?.skip(1) {
         times = word.as_str().parse::<u32>()?;
     }
     let mut board = Record::open(rt.alloc(), Complement { below: PlainGates })?;
-    if let Err(refusal) = enter(&mut board) {
-        println!(rt; "{refusal}")?;
-        return Ok(());
-    }
-    match repeat(&mut board, times) {
+    match run(&mut board, times) {
         Ok((first, second, open)) => println!(rt; "{first} {second} {open}")?,
         Err(refusal) => println!(rt; "{refusal}")?,
     }
     Ok(())
-}
-
-fn main(rt: HostRuntime) -> anyhow::Result<()> {
-    work(&rt)
 }

@@ -6,7 +6,8 @@ use Rattle.gate_list_format.specs.Lists.{GateList, Input, Gate, input_names, gat
 use Rattle.gate_list_format.specs.Reading.{input_form, input_forms, gate_form, gate_forms}
 use Rattle.gate_list_format.specs.Places.{laid}
 use Rattle.gate_list_format.proofs.Laid.{input_onto, gate_onto, writes_onto, writes_push, laid_names, laid_push, input_first, gate_first}
-use Rattle.gate_list_lines.specs.Lines.{IsInput, IsGate, line_name, line_kind, line_pins}
+use Rattle.gate_list_lines.specs.Lines.{IsInput, IsGateFields, line_name}
+use Rattle.gate_list_lines.specs.declared.GateFields.{GateFields}
 use Rattle.gate_list_lines.specs.declared.Line.{Line}
 use Rattle.gate_list_lines.specs.declared.Line.TheVariants.{Input as InputVariant, Gate as GateVariant}
 use Rattle.gate_list_names.specs.declared.InputEntry.{InputEntry}
@@ -61,16 +62,11 @@ both_names is gs ins outs p q = ap (λ t. t ++ gate_names gs) p ∙ ap (λ t. in
 
 -- a read line's entry
 pub input_entry_is : (place n : ℕ) (l : Line) (i : Input) → IsInput l i → n ≡ length (line_name l) → record { place = place; length = n } ≡ input_entry place i
-input_entry_is place n (InputVariant name applied start) i h e = ap (λ m. record { place = place; length = m }) (e ∙ ap length h.0)
-input_entry_is place n (GateVariant name kind count start pins) i h e = absurd h
+input_entry_is place n (InputVariant fields) i h e = ap (λ m. record { place = place; length = m }) (e ∙ ap length h.0)
+input_entry_is place n (GateVariant fields) i h e = absurd h
 
-pub gate_entry_is : (place n k : ℕ) (l : Line) (g : Gate) → IsGate l g → n ≡ length (line_name l) → k ≡ line_kind l → record { place = place; length = n; kind = k } ≡ gate_entry place g
-gate_entry_is place n k (InputVariant name applied start) g h e e₁ = absurd h
-gate_entry_is place n k (GateVariant name kind count start pins) g h e e₁ = ap (λ m. record { place = place; length = m; kind = k }) (e ∙ ap length h.0) ∙ ap (λ m. record { place = place; length = length g.name; kind = m }) (e₁ ∙ h.1)
-
-pub gate_pins_are : (l : Line) (g : Gate) → IsGate l g → line_pins l ≡ length g.pins
-gate_pins_are (InputVariant name applied start) g h = absurd h
-gate_pins_are (GateVariant name kind count start pins) g h = h.2
+pub gate_entry_is : (place : ℕ) (fields : GateFields) (g : Gate) → IsGateFields fields g → record { place = place; length = length fields.name.now; kind = fields.kind } ≡ gate_entry place g
+gate_entry_is place fields g h = ap (λ m. record { place = place; length = m; kind = fields.kind }) (ap length h.0) ∙ ap (λ m. record { place = place; length = length g.name; kind = m }) h.1
 
 -- one more line is wanted
 pub inputs_step : (count i : ℕ) (is : List Input) (seen : List (List ℕ)) (next : List Input → Form GateList) (line : ℕ) (text : List ℕ) → i < count → input_names is ≡ seen → read (input_forms (count - i) is next) line text ≡ read (input_form seen (λ x. input_forms (count - (i + 1)) (is ++ (x ∷ [])) next)) line text

@@ -1,20 +1,28 @@
 -- The form of a whole list, part by part, and what is held once it is read.
-use Rattle.std.proofs.Common.{◌≡◌, ℕ, ◌-◌, ◌<◌, cond, eqb, List, [], ◌∷◌, ◌++◌, length, take, replicate, codes, sym, refl, ap, ◌∙◌, arith}
-use Rattle.std.proofs.lemmas.List.{length-append}
+use Rattle.std.proofs.Common.{◌≡◌, ℕ, suc, ◌+◌, ◌-◌, ◌<◌, ◌≤◌, cond, eqb, List, [], ◌∷◌, ◌++◌, length, take, drop, replicate, codes, Ok, Err, Result, Bor, sym, refl, ap, ◌∙◌, subst, arith}
+use Rattle.std.proofs.lemmas.List.{length-append, length-take-le, take-append-le, nil_from_length}
 use Rattle.std.proofs.lemmas.Bool.{cond-false, ne_eqb}
-use Rattle.gate_list_format.specs.Slots.{Form, ends, read, Outcome, refused}
-use Rattle.gate_list_format.specs.Lists.{GateList, Input, Gate, write_heading, write_input, write_gate, writes, written}
-use Rattle.gate_list_format.specs.Reading.{heading_form, input_forms, gate_forms, answer, list_form, reading}
-use Rattle.gate_list_format.specs.Places.{laid}
-use Rattle.gate_list_format.proofs.Laid.{heading_onto, fronts}
+use Rattle.std.specs.Result.{result_unwrap_or}
+use Rattle.gate_list_format.specs.Slots.{Form, ends, read, Outcome, accepted, refused}
+use Rattle.gate_list_format.specs.Lists.{GateList, Input, Gate, input_names, write_heading, write_input, write_gate, writes, written}
+use Rattle.gate_list_format.specs.Reading.{heading_form, input_forms, gate_forms, answer, list_form, reading, admitted}
+use Rattle.gate_list_format.specs.Places.{laid, inputs_place, gates_place}
+use Rattle.gate_list_format.proofs.Admitted.{sized}
+use Rattle.gate_list_format.proofs.Laid.{heading_onto, input_onto, fronts, length-laid}
 use Rattle.gate_list_fields.specs.declared.Fault.{Fault}
 use Rattle.gate_list_fields.specs.declared.Fault.TheVariants.{Form as FormFault, Number, Repeated, Word, Source, Wires}
 use Rattle.gate_list_fields.specs.Faults.{number_of}
-use Rattle.gate_list_lines.specs.Lines.{HeadingIs}
+use Rattle.gate_list_lines.specs.Lines.{HeadingIs, HeadingRead}
 use Rattle.gate_list_names.specs.declared.InputEntry.{InputEntry}
 use Rattle.gate_list_names.specs.declared.GateEntry.{GateEntry}
-use Rattle.gate_list.specs.Tables.{input_entry, gate_entry, filled}
-use Rattle.gate_list.specs.Parts.{Rest, InputsAre, GatesAre, Held}
+use Rattle.gate_list.specs.Tables.{told, counts, input_entry, gate_entry, input_entries, gate_entries, no_input, no_gate, filled, input_table, gate_table}
+use Rattle.gate_list_names.specs.Names.{input_names_in}
+use Rattle.gate_list.specs.declared.Refusal.{Refusal}
+use Rattle.gate_list.specs.declared.Refusal.TheVariants.{Size, At}
+use Rattle.gate_list.specs.Refusals.{tied, RefusedAt}
+use Rattle.gate_list.specs.Parts.{Rest, InputsAre, InputsRead, GatesAre, GatesRead, Held, ListRead}
+use Rattle.gate_list.proofs.Tied.{read_so}
+use Rattle.gate_list.proofs.Laying.{rest_trans, rest_writes, inputs_named}
 
 abbrev pub list₄ : List Input → List Gate → Form GateList
 list₄ is gs = ends (answer (record { inputs = is; gates = gs }))
@@ -44,10 +52,6 @@ ends_more o line (b ∷ bs) h = refl
 pub rest_heading : (word : List ℕ) (n : ℕ) (text rest : List ℕ) → text ≡ write_heading word n rest → Rest text rest
 rest_heading word n text rest e = (write_heading word n [], e ∙ heading_onto word n [] rest)
 
-empty : (t : List ℕ) → length t ≡ 0 → t ≡ []
-empty [] h = refl
-empty (b ∷ bs) h = absurd (omega arith)
-
 -- where a rest of the text begins
 place_of : (text front rest : List ℕ) → text ≡ front ++ rest → length text - length rest ≡ length front
 place_of text front rest e = omega (arith, ap length e ∙ length-append front rest)
@@ -56,7 +60,7 @@ pub held : (text rest₀ rest₁ rest₂ rest₃ : List ℕ) (is : List Input) (
 unfolding written
 held text rest₀ rest₁ rest₂ rest₃ is gs n r inputs gates h₁ ins h₂ outs end =
     let b : GateList = record { inputs = is; gates = gs } in
-    let gates-text : rest₂ ≡ writes write_gate gs [] = outs.written ∙ ap (writes write_gate gs) (empty rest₃ end) in
+    let gates-text : rest₂ ≡ writes write_gate gs [] = outs.written ∙ ap (writes write_gate gs) (nil_from_length rest₃ end) in
     let heading-text : rest₁ ≡ write_heading (codes "gates") (length gs) (writes write_gate gs []) =
     h₂.written ∙ ap (write_heading (codes "gates") r) gates-text ∙ ap (λ m. write_heading (codes "gates") m (writes write_gate gs [])) (sym outs.long) in
     let inputs-text : rest₀ ≡ writes write_input is (write_heading (codes "gates") (length gs) (writes write_gate gs [])) = ins.written ∙ ap (writes write_input is) heading-text in
@@ -72,6 +76,76 @@ held text rest₀ rest₁ rest₂ rest₃ is gs n r inputs gates h₁ ins h₂ o
       input_rows = ins.entries ∙ ap (λ p. laid write_input input_entry p is) (place_of text (write_heading (codes "inputs") (length is) []) rest₀ (whole ∙ (fronts b).0 ∙ ap (λ t. write_heading (codes "inputs") (length is) [] ++ t) (sym inputs-text)));
       gate_rows = outs.entries ∙ ap (λ p. laid write_gate gate_entry p gs) (place_of text (write_heading (codes "inputs") (length is) (writes write_input is (write_heading (codes "gates") (length gs) []))) rest₂ (whole ∙ (fronts b).1 ∙ ap (λ t. write_heading (codes "inputs") (length is) (writes write_input is (write_heading (codes "gates") (length gs) [])) ++ t) (sym gates-text)));
     }
+
+-- a heading that was read, and its count as another number
+pub heading_so : (word : List ℕ) (most : ℕ) (text : List ℕ) (line : ℕ) (r : Result (ℕ × Bor (List ℕ)) Fault) (n m : ℕ) (rest : Bor (List ℕ)) → Ok (n, rest) ≡ tied line r → HeadingRead word most text r → m ≡ n → HeadingIs word most text m rest.now
+heading_so word most text line r n m rest e h q = subst (λ k. HeadingIs word most text k rest.now) (sym q) (read_so (HeadingRead word most text) line r (n, rest) e h)
+
+-- the text begins with the inputs' heading and so many input lines, and the table's first entries are theirs
+pub record InputsIn (text : List ℕ) (n : ℕ) (inputs : List InputEntry) (rest : List ℕ) : Type 0 where
+  pub list : List Input
+  pub body : List ℕ
+  pub heading : HeadingIs (codes "inputs") 32 text n body
+  pub lines : InputsAre n text body inputs list rest
+  pub reads : reading text ≡ read (list₂ list) (2 + n) rest
+
+-- and with the gates' heading and so many gate lines
+pub record GatesIn (text : List ℕ) (n r : ℕ) (inputs : List InputEntry) (gates : List GateEntry) (rest : List ℕ) : Type 0 where
+  pub list : GateList
+  pub holds : length rest ≡ 0 → Held text inputs gates n r list
+  pub reads : reading text ≡ read (ends (answer list)) (n + 3 + r) rest
+
+-- the inputs' lines, whose entries go to the front of the table
+module _ (text : List ℕ) (body : List ℕ) (n : ℕ) (old table : List InputEntry) (h : HeadingIs (codes "inputs") 32 text n body) (room : 32 ≤ length old) (long : length table ≡ length (take n old)) where
+  inputs_front : length (take n old) ≡ n
+  inputs_front = length-take-le n old (omega (arith, h.few))
+
+  inputs_begun : reading text ≡ read (list₁ n) 2 body
+  inputs_begun = reading_is text ∙ h.on 1 list₁
+
+  pub inputs_in : (rest : Bor (List ℕ)) → InputsRead (length (take n old)) text body table (Ok rest) → InputsIn text n (table ++ drop n old) rest.now
+  inputs_in rest read =
+      let ins = subst (λ m. InputsRead m text body table (Ok rest)) inputs_front read in
+      record {
+        list = ins.0;
+        body = body;
+        heading = h;
+        lines = record { long = ins.1.long; written = ins.1.written; entries = take-append-le n table (drop n old) (omega (arith, long, inputs_front)) ∙ ins.1.entries };
+        reads = inputs_begun ∙ ins.2 list₂;
+      }
+
+  pub inputs_refused : (e : Refusal) → InputsRead (length (take n old)) text body table (Err e) → RefusedAt (reading text) e
+  inputs_refused e read = subst (λ o. RefusedAt o e) (sym inputs_begun) (subst (λ m. InputsRead m text body table (Err e)) inputs_front read list₂)
+
+-- the gates' lines behind them
+module _ (text rest₁ body : List ℕ) (n r : ℕ) (inputs : List InputEntry) (old table : List GateEntry) (i : InputsIn text n inputs rest₁) (h : HeadingIs (codes "gates") 96 rest₁ r body) (room : 96 ≤ length old) (long : length table ≡ length (take r old)) where
+  gates_front : length (take r old) ≡ r
+  gates_front = length-take-le r old (omega (arith, h.few))
+
+  gates_begun : reading text ≡ read (list₃ i.list r) (n + 3) body
+  gates_begun = i.reads ∙ h.on (2 + n) (list₃ i.list) ∙ ap (λ l. read (list₃ i.list r) l body) (let e : suc (2 + n) ≡ n + 3 = omega arith in e)
+
+  named : input_names i.list ≡ input_names_in text (take n inputs)
+  named = inputs_named text i.body i.list rest₁ (take n inputs) (rest_heading (codes "inputs") n text i.body i.heading.written) i.lines.written i.lines.entries
+
+  pub gates_in : (rest : Bor (List ℕ)) → GatesRead (length (take r old)) (n + 3) text body (take n inputs) table (Ok rest) → GatesIn text n r inputs (table ++ drop r old) rest.now
+  gates_in rest read =
+      let outs = subst (λ m. GatesRead m (n + 3) text body (take n inputs) table (Ok rest)) gates_front read in
+      record {
+        list = record { inputs = i.list; gates = outs.0 };
+        holds = held text i.body rest₁ body rest.now i.list outs.0 n r inputs (table ++ drop r old) i.heading i.lines h (record { long = outs.1.long; lawful = outs.1.lawful; written = outs.1.written; entries = take-append-le r table (drop r old) (omega (arith, long, gates_front)) ∙ outs.1.entries });
+        reads = gates_begun ∙ outs.2 i.list named (list₄ i.list);
+      }
+
+  pub gates_refused : (e : Refusal) → GatesRead (length (take r old)) (n + 3) text body (take n inputs) table (Err e) → RefusedAt (reading text) e
+  gates_refused e read = subst (λ o. RefusedAt o e) (sym gates_begun) (subst (λ m. GatesRead m (n + 3) text body (take n inputs) table (Err e)) gates_front read i.list named (list₄ i.list))
+
+-- what is left of the text behind the input lines, and behind the gates' heading
+pub rest_inputs : (text rest₁ body : List ℕ) (n r : ℕ) (inputs : List InputEntry) → InputsIn text n inputs rest₁ → HeadingIs (codes "gates") 96 rest₁ r body → Rest text body
+rest_inputs text rest₁ body n r inputs i h =
+    rest_trans text rest₁ body
+    (rest_trans text i.body rest₁ (rest_heading (codes "inputs") n text i.body i.heading.written) (rest_writes write_input input_onto i.body i.list rest₁ i.lines.written))
+    (rest_heading (codes "gates") r rest₁ body h.written)
 
 -- no fault at a place has the number of a size
 pub no_size : (f : Fault) → number_of f ≡ 14 → ⊥
@@ -90,3 +164,36 @@ pub all_blank : {E : Type 0} (table old : List E) (blank : E) (f : Fault) → le
 all_blank table old blank f long =
     ap (λ n. replicate n blank) (let e : length table - 0 ≡ length old - 0 = omega arith in e)
     ∙ sym (cond-false (eqb (number_of f) 14) old (filled blank old []) (ne_eqb (number_of f) 14 (no_size f)))
+
+-- a checked text: what is answered, and what the tables hold once their ends are blanked
+module _ (text : List ℕ) (old inputs : List InputEntry) (old-gates gates : List GateEntry) (small : length text ≤ 65536) (room : 32 ≤ length old) (gate-room : 96 ≤ length old-gates) (long : length inputs ≡ length old) (gates-long : length gates ≡ length old-gates) where
+  outcome : Outcome GateList
+  outcome = admitted (length old) (length old-gates) text
+
+  read_whole : outcome ≡ reading text
+  unfolding outcome
+  read_whole = sized (length old) (length old-gates) text small room gate-room
+
+  pub answered : (r : Result (ℕ × ℕ) Refusal) → ListRead text inputs gates r → told r ≡ counts (admitted (length old) (length old-gates) text)
+  unfolding outcome
+  answered (Ok x) h = ap (λ m. accepted (m, x.1)) h.1.input_count ∙ ap (λ m. accepted (length h.0.inputs, m)) h.1.gate_count ∙ sym (ap counts (read_whole ∙ h.2))
+  answered (Err Size) h = absurd h
+  answered (Err (At fault line)) h = sym (ap counts (read_whole ∙ h))
+
+  inputs_held_by : (r : Result (ℕ × ℕ) Refusal) → ListRead text inputs gates r → take (result_unwrap_or r (0, 0)).0 inputs ++ replicate (length inputs - (result_unwrap_or r (0, 0)).0) no_input ≡ input_table old (admitted (length old) (length old-gates) text)
+  unfolding outcome
+  inputs_held_by (Ok x) h = rows_filled inputs old (input_entries h.0) x.0 no_input h.1.input_rows (h.1.input_count ∙ sym (length-laid write_input input_entry (inputs_place h.0) h.0.inputs)) long ∙ sym (ap (input_table old) (read_whole ∙ h.2))
+  inputs_held_by (Err Size) h = absurd h
+  inputs_held_by (Err (At fault line)) h = all_blank inputs old no_input fault long ∙ sym (ap (input_table old) (read_whole ∙ h))
+
+  pub inputs_held : (r : Result (ℕ × ℕ) Refusal) (x : ℕ × ℕ) (blank : InputEntry) → ListRead text inputs gates r → x ≡ result_unwrap_or r (0, 0) → blank ≡ no_input → take x.0 inputs ++ replicate (length inputs - x.0) blank ≡ input_table old (admitted (length old) (length old-gates) text)
+  inputs_held r x blank h ex eb = ap (λ b. take x.0 inputs ++ replicate (length inputs - x.0) b) eb ∙ ap (λ (y : ℕ × ℕ). take y.0 inputs ++ replicate (length inputs - y.0) no_input) ex ∙ inputs_held_by r h
+
+  gates_held_by : (r : Result (ℕ × ℕ) Refusal) → ListRead text inputs gates r → take (result_unwrap_or r (0, 0)).1 gates ++ replicate (length gates - (result_unwrap_or r (0, 0)).1) no_gate ≡ gate_table old-gates (admitted (length old) (length old-gates) text)
+  unfolding outcome
+  gates_held_by (Ok x) h = rows_filled gates old-gates (gate_entries h.0) x.1 no_gate h.1.gate_rows (h.1.gate_count ∙ sym (length-laid write_gate gate_entry (gates_place h.0) h.0.gates)) gates-long ∙ sym (ap (gate_table old-gates) (read_whole ∙ h.2))
+  gates_held_by (Err Size) h = absurd h
+  gates_held_by (Err (At fault line)) h = all_blank gates old-gates no_gate fault gates-long ∙ sym (ap (gate_table old-gates) (read_whole ∙ h))
+
+  pub gates_held : (r : Result (ℕ × ℕ) Refusal) (x : ℕ × ℕ) (blank : GateEntry) → ListRead text inputs gates r → x ≡ result_unwrap_or r (0, 0) → blank ≡ no_gate → take x.1 gates ++ replicate (length gates - x.1) blank ≡ gate_table old-gates (admitted (length old) (length old-gates) text)
+  gates_held r x blank h ex eb = ap (λ b. take x.1 gates ++ replicate (length gates - x.1) b) eb ∙ ap (λ (y : ℕ × ℕ). take y.1 gates ++ replicate (length gates - y.1) no_gate) ex ∙ gates_held_by r h

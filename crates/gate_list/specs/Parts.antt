@@ -4,13 +4,16 @@ use Rattle.std.specs.Borrow.{Bor}
 use Rattle.std.specs.List.{AllByRecursion}
 use Rattle.gate_list_format.specs.Slots.{Outcome, accepted, refused, Form, read}
 use Rattle.gate_list_format.specs.Lists.{GateList, Input, Gate, LawfulGate, input_names, write_input, write_gate, writes, written}
-use Rattle.gate_list_format.specs.Reading.{input_forms, gate_forms, known, sourced, answer, reading}
+use Rattle.gate_list_format.specs.Reading.{input_forms, gate_forms, member, known, sourced, answer, reading}
 use Rattle.gate_list_format.specs.Places.{laid}
-use Rattle.gate_list_fields.specs.declared.Fault.{Fault}
-use Rattle.gate_list_fields.specs.Faults.{number_of}
+use Rattle.gate_list_lookup.specs.Lookup.{pin_number}
 use Rattle.gate_list_names.specs.declared.InputEntry.{InputEntry}
 use Rattle.gate_list_names.specs.declared.GateEntry.{GateEntry}
-use Rattle.gate_list_names.specs.Names.{input_names_in, gate_names_in}
+use Rattle.gate_list_names.specs.declared.Names.{Names}
+use Rattle.gate_list_names.specs.Names.{input_names_in}
+use Rattle.gate_list_names.specs.Given.{all_names}
+use Rattle.gate_list.specs.declared.Refusal.{Refusal}
+use Rattle.gate_list.specs.Refusals.{RefusedAt}
 use Rattle.gate_list.specs.Tables.{input_entry, gate_entry, input_entries, gate_entries}
 
 -- what is left of a text
@@ -23,9 +26,9 @@ pub record InputsAre (count : ℕ) (whole text : List ℕ) (table : List InputEn
   pub written : text ≡ writes write_input is rest
   pub entries : take count table ≡ laid write_input input_entry (length whole - length text) is
 
-abbrev pub InputsRead : ℕ → List ℕ → List ℕ → List InputEntry → Result (Bor (List ℕ)) (Fault × ℕ) → Type 0
+abbrev pub InputsRead : ℕ → List ℕ → List ℕ → List InputEntry → Result (Bor (List ℕ)) Refusal → Type 0
 InputsRead count whole text table (Ok rest) = (is : List Input) × InputsAre count whole text table is rest.now × ((next : List Input → Form GateList) → read (input_forms count [] next) 2 text ≡ read (next is) (2 + count) rest.now)
-InputsRead count whole text table (Err e) = (next : List Input → Form GateList) → read (input_forms count [] next) 2 text ≡ refused (number_of e.0) e.1
+InputsRead count whole text table (Err e) = (next : List Input → Form GateList) → RefusedAt (read (input_forms count [] next) 2 text) e
 
 -- the text begins with these gate lines, and the table's first entries are theirs
 pub record GatesAre (count : ℕ) (whole text : List ℕ) (table : List GateEntry) (gs : List Gate) (rest : List ℕ) : Type 0 where
@@ -34,9 +37,9 @@ pub record GatesAre (count : ℕ) (whole text : List ℕ) (table : List GateEntr
   pub written : text ≡ writes write_gate gs rest
   pub entries : take count table ≡ laid write_gate gate_entry (length whole - length text) gs
 
-abbrev pub GatesRead : ℕ → ℕ → List ℕ → List ℕ → List InputEntry → List GateEntry → Result (Bor (List ℕ)) (Fault × ℕ) → Type 0
+abbrev pub GatesRead : ℕ → ℕ → List ℕ → List ℕ → List InputEntry → List GateEntry → Result (Bor (List ℕ)) Refusal → Type 0
 GatesRead count first whole text inputs table (Ok rest) = (gs : List Gate) × GatesAre count whole text table gs rest.now × ((is : List Input) → input_names is ≡ input_names_in whole inputs → (next : List Gate → Form GateList) → read (gate_forms count is [] next) first text ≡ read (next gs) (first + count) rest.now)
-GatesRead count first whole text inputs table (Err e) = (is : List Input) → input_names is ≡ input_names_in whole inputs → (next : List Gate → Form GateList) → read (gate_forms count is [] next) first text ≡ refused (number_of e.0) e.1
+GatesRead count first whole text inputs table (Err e) = (is : List Input) → input_names is ≡ input_names_in whole inputs → (next : List Gate → Form GateList) → RefusedAt (read (gate_forms count is [] next) first text) e
 
 -- the tables hold the list that the text writes
 pub record Held (text : List ℕ) (inputs : List InputEntry) (gates : List GateEntry) (n r : ℕ) (b : GateList) : Type 0 where
@@ -50,17 +53,21 @@ pub record Held (text : List ℕ) (inputs : List InputEntry) (gates : List GateE
   pub gate_rows : take r gates ≡ gate_entries b
 
 -- all lines are read, but for the look at the sources
-abbrev pub LinesRead : List ℕ → List InputEntry → List GateEntry → Result (ℕ × ℕ) (Fault × ℕ) → Type 0
+abbrev pub LinesRead : List ℕ → List InputEntry → List GateEntry → Result (ℕ × ℕ) Refusal → Type 0
 LinesRead text inputs gates (Ok x) = (b : GateList) × Held text inputs gates x.0 x.1 b × (reading text ≡ answer b)
-LinesRead text inputs gates (Err e) = reading text ≡ refused (number_of e.0) e.1
+LinesRead text inputs gates (Err e) = RefusedAt (reading text) e
 
-abbrev pub ListRead : List ℕ → List InputEntry → List GateEntry → Result (ℕ × ℕ) (Fault × ℕ) → Type 0
+abbrev pub ListRead : List ℕ → List InputEntry → List GateEntry → Result (ℕ × ℕ) Refusal → Type 0
 ListRead text inputs gates (Ok x) = (b : GateList) × Held text inputs gates x.0 x.1 b × (reading text ≡ accepted b)
-ListRead text inputs gates (Err e) = reading text ≡ refused (number_of e.0) e.1
+ListRead text inputs gates (Err e) = RefusedAt (reading text) e
 
 -- the pin count of a lawful gate line, written at a place
 abbrev pub PinCount : List ℕ → ℕ → ℕ → Type 0
 PinCount text place r = (g : Gate) (rest : List ℕ) → LawfulGate g → drop place text ≡ write_gate g rest → r ≡ length g.pins
+
+-- whether the source of a pin is among the names, in a lawful gate line, written at a place
+abbrev pub SourceKnown : List (List ℕ) → List ℕ → ℕ → ℕ → Bool → Type 0
+SourceKnown ns text place pin r = (g : Gate) (rest : List ℕ) → LawfulGate g → drop place text ≡ write_gate g rest → pin < length g.pins → r ≡ member (pin_number g.pins pin).source ns
 
 -- whether the sources of a lawful gate line, written at a place, are all among the names
 abbrev pub GateKnown : List (List ℕ) → List ℕ → ℕ → Bool → Type 0
@@ -72,5 +79,5 @@ FirstUnknown ns gs None = (line : ℕ) (o : Outcome GateList) → sourced ns lin
 FirstUnknown ns gs (Some k) = (k < length gs) × ((line : ℕ) (o : Outcome GateList) → sourced ns line gs o ≡ refused 19 (line + k))
 
 -- the same of the gates that the table holds
-abbrev pub UnknownGate : List ℕ → List InputEntry → List GateEntry → Option ℕ → Type 0
-UnknownGate text inputs gates r = (gs : List Gate) (front : List ℕ) → AllByRecursion LawfulGate gs → text ≡ front ++ writes write_gate gs [] → gates ≡ laid write_gate gate_entry (length front) gs → FirstUnknown (input_names_in text inputs ++ gate_names_in text gates) gs r
+abbrev pub UnknownGate : Names → Option ℕ → Type 0
+UnknownGate names r = (gs : List Gate) (front : List ℕ) → AllByRecursion LawfulGate gs → names.text.now ≡ front ++ writes write_gate gs [] → names.gates.now ≡ laid write_gate gate_entry (length front) gs → FirstUnknown (all_names names) gs r

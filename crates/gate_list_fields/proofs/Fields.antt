@@ -1,46 +1,37 @@
 -- Fields at the front of a text.
-use Rattle.std.proofs.Common.{◌≡◌, ℕ, zero, suc, ◌+◌, ◌<◌, ◌≤◌, Bool, true, false, cond, eqb, ◌⊎◌, List, [], ◌∷◌, ◌++◌, length, get_or, take, drop, Some, None, decimal, sym, refl, ap, ◌∙◌, ⊎_elim, arith}
+use Rattle.std.proofs.Common.{◌≡◌, ℕ, zero, suc, ◌+◌, ◌<◌, ◌≤◌, Bool, true, false, cond, eqb, ◌||◌, List, [], ◌∷◌, length, get_or, take, drop, Some, None, decimal, sym, refl, ap, ◌∙◌, arith}
+use Rattle.std.proofs.Common.{one-add}
+use Rattle.std.specs.Prelude.{position, unwrap_or, nat_lt}
+use Rattle.std.specs.List.{prefix_len}
+use Rattle.std.proofs.lemmas.List.Sums.{prefix_len-le-length}
 use Rattle.std.specs.Str.{bytes_eq}
-use Rattle.std.proofs.lemmas.List.{take-append-drop, drop_more, take_more}
 use Rattle.std.proofs.lemmas.Fmt.{decimal_digit}
 use Rattle.std.proofs.lemmas.Slice.Eq.{bytes_eq-Decides}
-use Rattle.std.proofs.lemmas.Bool.{and_parts, and_from, or_left, or_right, eq-eqb, cond-true, cond-false, not_from_true}
-use Rattle.gate_list_format.specs.Slots.{solid, solids, field, behind, Judged, fits, fault, verdict, End, byte, past}
+use Rattle.gate_list_format.specs.Slots.{solid, field, behind, Judged, fits, fault, verdict}
 use Rattle.gate_list_format.specs.Reading.{pick, bit}
-use Rattle.gate_list_format.proofs.Judges.{solid_from, number_fits}
+use Rattle.gate_list_format.proofs.Judges.{number_fits}
 
-field_at : (xs : List ℕ) (b : ℕ) (ys : List ℕ) → solids xs ≡ true → solid b ≡ false → (field (xs ++ (b ∷ ys)) ≡ xs) × (behind (xs ++ (b ∷ ys)) ≡ b ∷ ys)
-field_at [] b ys h e = (cond-false (solid b) _ _ e, cond-false (solid b) _ _ e)
-field_at (x ∷ xs) b ys h e =
-    let r = and_parts (solid x) (solids xs) h in
-    let more = field_at xs b ys r.1 e in
-    (cond-true (solid x) _ _ r.0 ∙ ap (λ t. x ∷ t) more.0, cond-true (solid x) _ _ r.0 ∙ more.1)
+-- what ends a field
+abbrev pub stop : ℕ → Bool
+stop b = eqb b 32 || eqb b 10
 
-pub field_all : (xs : List ℕ) → solids xs ≡ true → (field xs ≡ xs) × (behind xs ≡ [])
-field_all [] h = (refl, refl)
-field_all (x ∷ xs) h =
-    let r = and_parts (solid x) (solids xs) h in
-    let more = field_all xs r.1 in
-    (cond-true (solid x) _ _ r.0 ∙ ap (λ t. x ∷ t) more.0, cond-true (solid x) _ _ r.0 ∙ more.1)
+cut_at : (text : List ℕ) → (take (prefix_len solid text) text ≡ field text) × (drop (prefix_len solid text) text ≡ behind text)
+cut_at [] = (refl, refl)
+cut_at (b ∷ bs) =
+    let more = cut_at bs in
+    elim (solid b) as (λ t. (take (cond t (1 + prefix_len solid bs) 0) (b ∷ bs) ≡ cond t (b ∷ field bs) []) × (drop (cond t (1 + prefix_len solid bs) 0) (b ∷ bs) ≡ cond t (behind bs) (b ∷ bs))) [
+      | true ↦ (rw one-add (ap (λ t. b ∷ t) more.0), rw one-add more.1)
+      | false ↦ (refl, refl)
+    ]
 
--- the field ends at a place i
-pub field_cut : (text : List ℕ) (i : ℕ) → i < length text → solids (take i text) ≡ true → solid (get_or text i 0) ≡ false → (take i text ≡ field text) × (drop i text ≡ behind text)
-field_cut text i l h e =
-    let whole : text ≡ take i text ++ (get_or text i 0 ∷ drop (i + 1) text) = sym (take-append-drop i text) ∙ ap (λ t. take i text ++ t) (drop_more text i 0 l) in
-    let at = field_at (take i text) (get_or text i 0) (drop (i + 1) text) h e in
-    (sym (ap field whole ∙ at.0), drop_more text i 0 l ∙ sym (ap behind whole ∙ at.1))
+or_length : (n l : ℕ) → n ≤ l → unwrap_or (cond (nat_lt n l) (Some n) None) l ≡ n
+or_length n l h = grind arith
 
-solids_push : (ds : List ℕ) (b : ℕ) → solids ds ≡ true → solid b ≡ true → solids (ds ++ (b ∷ [])) ≡ true
-solids_push [] b h l = and_from (solid b) true l refl
-solids_push (d ∷ ds) b h l =
-    let both = and_parts (solid d) (solids ds) h in
-    and_from (solid d) _ both.0 (solids_push ds b both.1 l)
-
-pub solids_more : (text : List ℕ) (i : ℕ) → i < length text → solids (take i text) ≡ true → (get_or text i 0 ≡ 32 → ⊥) → (get_or text i 0 ≡ 10 → ⊥) → solids (take (i + 1) text) ≡ true
-solids_more text i l h p q = ap solids (take_more text i 0 l) ∙ solids_push (take i text) (get_or text i 0) h (solid_from (get_or text i 0) p q)
-
-pub solid_end : (b : ℕ) → (b ≡ 32) ⊎ (b ≡ 10) → solid b ≡ false
-solid_end b h = not_from_true _ (⊎_elim (λ e. or_left (eqb b 32) (eqb b 10) (eq-eqb b 32 e)) (λ e. or_right (eqb b 32) (eqb b 10) (eq-eqb b 10 e)) h)
+-- the field ends at the first byte that ends it, or with the text
+pub field_position : (text : List ℕ) → (take (unwrap_or (position stop text) (length text)) text ≡ field text) × (drop (unwrap_or (position stop text) (length text)) text ≡ behind text)
+field_position text =
+    let at = or_length (prefix_len solid text) (length text) (prefix_len-le-length solid text) in
+    (ap (λ n. take n text) at ∙ (cut_at text).0, ap (λ n. drop n text) at ∙ (cut_at text).1)
 
 -- a field that is none of the texts
 pub pick_none : (n : ℕ) (text : ℕ → List ℕ) (v k : ℕ) (f : List ℕ) → ((a : ℕ) → v ≤ a → a < v + k → f ≡ text a → ⊥) → pick n text v k f ≡ fault n
@@ -66,7 +57,3 @@ bit_faults f h = verdict_fault bit f (pick_none 15 decimal 0 2 f (λ a p q e.
     let zero-not = (h one).0 in
     let one-not = (h one).1 in
     omega (arith, zero-not, one-not)))
-
-pub past_first : (e : End) (text : List ℕ) → 0 < length text → get_or text 0 0 ≡ byte e → past e text ≡ Some (drop 1 text)
-past_first e [] l h = absurd (omega arith)
-past_first e (b ∷ bs) l h = cond-true (eqb b (byte e)) (Some bs) None (eq-eqb b (byte e) h)

@@ -1,4 +1,3 @@
 pub mod Fields
 pub mod Numbers
-pub mod Names
 pub mod Slotted

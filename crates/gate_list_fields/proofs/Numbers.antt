@@ -5,7 +5,7 @@ use Rattle.std.proofs.lemmas.Bool.{cases_lt}
 use Rattle.gate_list_format.specs.Slots.{Judged, fits, fault, verdict}
 use Rattle.gate_list_format.specs.Lists.{word_text}
 use Rattle.gate_list_format.specs.Reading.{pick, gate_word}
-use Rattle.gate_list_format.proofs.Judges.{number_fits, word_fits}
+use Rattle.gate_list_format.proofs.Judges.{number_fits, word_fits, verdict_judge}
 use Rattle.gate_list_fields.proofs.Fields.{pick_none}
 
 two_digits : (v : ℕ) → 10 ≤ v → v < 100 → decimal v ≡ (48 + v / 10) ∷ (48 + v % 10) ∷ []
@@ -58,21 +58,17 @@ one_digit f None h c = λ v l e. ⊎_elim (λ o. c v o.small o.first) (λ t. ome
 one_digit f (Some d) h c = (omega (arith, c.0), one_is f d h c.0 c.1)
 
 -- a number in its range, and faults
-pub number_good : (f : List ℕ) (low high v : ℕ) → high < 100 → low ≤ v → v ≤ high → f ≡ decimal v → verdict (pick 16 decimal low (high + 1 - low)) f ≡ fits v
-number_good f low high v s a b e = ap (verdict (pick 16 decimal low (high + 1 - low))) e ∙ (number_fits 16 low (high + 1 - low) v a (omega arith) (omega arith)).1
+pub number_good : (f : List ℕ) (low high v : ℕ) → high < 100 → low ≤ v → v ≤ high → f ≡ decimal v → pick 16 decimal low (high + 1 - low) f ≡ fits v
+number_good f low high v s a b e = ap (pick 16 decimal low (high + 1 - low)) e ∙ verdict_judge (pick 16 decimal low (high + 1 - low)) (decimal v) v (number_fits 16 low (high + 1 - low) v a (omega arith) (omega arith)).1
 
-fault_some : (judge : List ℕ → Judged) (f : List ℕ) (n : ℕ) → 0 < length f → judge f ≡ fault n → verdict judge f ≡ fault n
-fault_some judge [] n l h = absurd (omega arith)
-fault_some judge (b ∷ bs) n l h = h
+pub number_bad : (f : List ℕ) (low high : ℕ) → low ≤ high → ((v : ℕ) → low ≤ v → v ≤ high → f ≡ decimal v → ⊥) → pick 16 decimal low (high + 1 - low) f ≡ fault 16
+number_bad f low high m h = pick_none 16 decimal low (high + 1 - low) f (λ a p q. h a p (omega arith))
 
-pub number_bad : (f : List ℕ) (low high : ℕ) → high < 100 → low ≤ high → 0 < length f → ((v : ℕ) → low ≤ v → v ≤ high → f ≡ decimal v → ⊥) → verdict (pick 16 decimal low (high + 1 - low)) f ≡ fault 16
-number_bad f low high s m l h = fault_some (pick 16 decimal low (high + 1 - low)) f 16 l (pick_none 16 decimal low (high + 1 - low) f (λ a p q. h a p (omega arith)))
+pub word_good : (f : List ℕ) (w : ℕ) → w < 10 → f ≡ word_text w → gate_word f ≡ fits w
+word_good f w l e = ap gate_word e ∙ verdict_judge gate_word (word_text w) w (word_fits w l).1
 
-pub word_good : (f : List ℕ) (w : ℕ) → w < 10 → f ≡ word_text w → verdict gate_word f ≡ fits w
-word_good f w l e = ap (verdict gate_word) e ∙ (word_fits w l).1
-
-pub word_bad : (f : List ℕ) → 0 < length f → ((w : ℕ) → w < 10 → f ≡ word_text w → ⊥) → verdict gate_word f ≡ fault 18
-word_bad f l h = fault_some gate_word f 18 l (pick_none 18 word_text 0 10 f (λ a p q. h a (omega arith)))
+pub word_bad : (f : List ℕ) → ((w : ℕ) → w < 10 → f ≡ word_text w → ⊥) → gate_word f ≡ fault 18
+word_bad f h = pick_none 18 word_text 0 10 f (λ a p q. h a (omega arith))
 
 pub no_number : (f : List ℕ) (r : Option ℕ) → r ≡ None → ((v : ℕ) → v < 100 → f ≡ decimal v → ⊥) → MatchOption r ((v : ℕ) → v < 100 → f ≡ decimal v → ⊥) (λ v. (v < 100) × (f ≡ decimal v))
 no_number f r e h = subst (λ q. MatchOption q ((v : ℕ) → v < 100 → f ≡ decimal v → ⊥) (λ v. (v < 100) × (f ≡ decimal v))) (sym e) h

@@ -1,14 +1,15 @@
 //! The fields of a gate list, read from a borrowed text.
 #![tactic(auto)]
 
-ghost use Rattle.std.specs.Prelude.{◌≡◌, ℕ, ◌+◌, ◌<◌, length, Some as Present, None as Absent, decimal, MatchOption, ◌≢◌};
+ghost use Rattle.std.specs.Prelude.{◌≡◌, ℕ, ◌+◌, ◌<◌, ◌||◌, ◌==◌, position, Some as Present, None as Absent, decimal, MatchOption, MatchResult, ◌≢◌};
 ghost use Rattle.gate_list_format.specs.Slots.{byte, field, behind, past, verdict};
 ghost use Rattle.gate_list_format.specs.Lists.{word_text, letter as is_letter, name_byte as is_name_byte, name_bytes, is_name as is_name_field};
 ghost use Rattle.gate_list_format.specs.Reading.{bit as bit_judge};
+ghost use Rattle.gate_list_fields.specs.Faults.{number_of};
 ghost use Rattle.gate_list_fields.specs.Taken.{end_of, judged, Slotted};
 
 /// What is wrong at a place in a gate list
-#[derive(Clone, Copy)]
+#[derive(Clone, Copy, PartialEq, Eq, Debug)]
 pub enum Fault {
     /// A field or a line end is missing, a field is extra, or a heading, a name or a bit is malformed
     Form,
@@ -24,8 +25,24 @@ pub enum Fault {
     Wires,
 }
 
+impl Fault {
+    /// The fault's number
+    pub fn number(self) -> u8
+        ensures { result ≡ number_of self }
+    {
+        match self {
+            Fault::Form => 15,
+            Fault::Number => 16,
+            Fault::Repeated => 17,
+            Fault::Word => 18,
+            Fault::Source => 19,
+            Fault::Wires => 2,
+        }
+    }
+}
+
 /// What ends a field
-#[derive(Clone, Copy)]
+#[derive(Clone, Copy, PartialEq, Eq, Debug)]
 pub enum End {
     /// A space
     Space,
@@ -33,35 +50,38 @@ pub enum End {
     Newline,
 }
 
+impl From<End> for u8 {
+    ghost from_gives = { λ end b. b ≡ byte (end_of end) };
+
+    fn from(end: End) -> u8 {
+        match end {
+            End::Space => b' ',
+            End::Newline => b'\n',
+        }
+    }
+}
+
 /// The field that a text begins with, and what stands from its end on
 pub fn split_field(text: &[u8]) -> (&[u8], &[u8])
     ensures { (result.0.now ≡ field text.now) × (result.1.now ≡ behind text.now) }
 {
-    for (i, b) in text.iter().enumerate() {
-        if *b == b' ' || *b == b'\n' {
-            return (&text[..i], &text[i..]);
-        }
-    }
-    (text, &text[text.len()..])
+    text.split_at(field_end(text).unwrap_or(text.len()))
 }
 
-fn end_byte(end: End) -> u8
-    ensures { result ≡ byte (end_of end) }
+/// Where the field that a text begins with ends before the text does
+fn field_end(text: &[u8]) -> Option<usize>
+    ensures { result ≡ position (λ b. b == 32 || b == 10) text.now }
 {
-    match end {
-        End::Space => b' ',
-        End::Newline => b'\n',
-    }
+    text.iter().position(|b| matches!(*b, b' ' | b'\n'))
 }
 
-/// What stands behind the end of a field, if that is there
-pub fn close(text: &[u8], end: End) -> Option<&[u8]>
-    ensures { MatchOption result (past (end_of end) text.now ≡ Absent) (λ x. past (end_of end) text.now ≡ Present x.now) }
+/// What stands behind the end of a field, or the fault that the end is missing
+pub fn close(text: &[u8], end: End) -> Result<&[u8], Fault>
+    ensures { MatchResult result (λ rest. past (end_of end) text.now ≡ Present rest.now) (λ fault. (fault ≡ Fault.Form) × (past (end_of end) text.now ≡ Absent)) }
 {
-    if !text.is_empty() && text[0] == end_byte(end) {
-        Some(&text[1..])
-    } else {
-        None
+    match text {
+        [first, rest @ ..] if *first == u8::from(end) => Ok(rest),
+        _ => Err(Fault::Form),
     }
 }
 
@@ -80,21 +100,19 @@ fn bit(field: &[u8]) -> Result<u8, Fault>
 pub fn bit_slot(text: &[u8], end: End) -> Result<(u8, &[u8]), Fault>
     ensures { Slotted bit_judge (end_of end) text.now result }
 {
+    // Not by the generic slot of the lines: that has a `requires`, for its judge, and another crate could name it.
     let (field, behind) = split_field(text);
     let value = bit(field)?;
-    match close(behind, end) {
-        Some(rest) => Ok((value, rest)),
-        None => Err(Fault::Form),
-    }
+    let rest = close(behind, end)?;
+    Ok((value, rest))
 }
 
 fn digit(b: u8) -> Option<u8>
     ensures { MatchOption result ((d : ℕ) → d < 10 → b ≢ 48 + d) (λ d. (d < 10) × (b ≡ 48 + d)) }
 {
-    if b >= 48 && b < 58 {
-        Some(b - 48)
-    } else {
-        None
+    match b {
+        b'0'..=b'9' => Some(b - b'0'),
+        _ => None,
     }
 }
 
@@ -102,63 +120,51 @@ fn digit(b: u8) -> Option<u8>
 pub fn short_number(field: &[u8]) -> Option<u8>
     ensures { MatchOption result ((v : ℕ) → v < 100 → field.now ≢ decimal v) (λ v. (v < 100) × (field.now ≡ decimal v)) }
 {
-    if field.len() == 1 {
-        return digit(field[0]);
+    match field {
+        [one] => digit(*one),
+        [b'0', _] => None,
+        [tens, ones] => {
+            let tens = digit(*tens)?;
+            let ones = digit(*ones)?;
+            Some(tens * 10 + ones)
+        }
+        _ => None,
     }
-    if field.len() != 2 {
-        return None;
-    }
-    let tens = digit(field[0])?;
-    let ones = digit(field[1])?;
-    if tens == 0 {
-        return None;
-    }
-    Some(tens * 10 + ones)
 }
 
 fn letter(b: u8) -> bool
     ensures { result ≡ is_letter b }
 {
-    97 <= b && b <= 122
+    matches!(b, b'a'..=b'z')
 }
 
 fn name_byte(b: u8) -> bool
     ensures { result ≡ is_name_byte b }
 {
-    letter(b) || (48 <= b && b <= 57) || b == 95
+    letter(b) || matches!(b, b'0'..=b'9' | b'_')
 }
 
 fn all_name_bytes(bytes: &[u8]) -> bool
     ensures { result ≡ name_bytes bytes.now }
 {
-    for b in bytes {
-        if !name_byte(*b) {
-            return false;
-        }
-    }
-    true
+    bytes.iter().all(|b| name_byte(*b))
 }
 
 /// Whether a field is a name
 pub fn is_name(field: &[u8]) -> bool
     ensures { result ≡ is_name_field field.now }
 {
-    if field.is_empty() {
-        return false;
+    match field {
+        [first, rest @ ..] => letter(*first) && all_name_bytes(rest) && rest.len() <= 15,
+        [] => false,
     }
-    if !letter(field[0]) {
-        return false;
-    }
-    if !all_name_bytes(&field[1..]) {
-        return false;
-    }
-    field.len() <= 16
 }
 
 /// The number of a gate word
 pub fn word_number(word: &[u8]) -> Option<u8>
     ensures { MatchOption result ((n : ℕ) → n < 10 → word.now ≢ word_text n) (λ n. (n < 10) × (word.now ≡ word_text n)) }
 {
+    // Each gate word is a literal case, so that nothing is searched at run time.
     match word {
         b"buf" => Some(0),
         b"not" => Some(1),

@@ -1,47 +1,66 @@
 -- Steps of headings, pins and lines.
-use Rattle.std.proofs.Common.{◌≡◌, ℕ, zero, suc, ◌+◌, ◌-◌, ◌<◌, ◌≤◌, true, false, ◌&&◌, leb, List, [], ◌∷◌, ◌++◌, length, take, decimal, sym, refl, ap, ◌∙◌, subst, arith}
+use Rattle.std.proofs.Common.{Ok, Err, ◌≡◌, ℕ, zero, suc, ◌+◌, ◌-◌, ◌<◌, ◌≤◌, true, false, ◌&&◌, leb, List, [], ◌∷◌, ◌++◌, length, take, decimal, Some, None, Option, Result, sym, refl, ap, ◌∙◌, subst, arith}
+use Rattle.std.specs.Borrow.{Bor}
 use Rattle.std.specs.List.{AllByRecursion}
+use Rattle.std.specs.Ordering.{is_le, nat_cmp}
+use Rattle.std.proofs.lemmas.Bool.Decides.{nat_tests}
+use Rattle.std.specs.Option.{MatchOption, ok_or}
 use Rattle.std.proofs.ByRecursion.{All-append}
-use Rattle.std.proofs.lemmas.List.{length-append, take_at}
+use Rattle.std.proofs.lemmas.List.{length-append, length_push, take_at}
 use Rattle.std.proofs.lemmas.Bool.{cond-true, cond-false, and_from, and_left, and_right, le-leb, lt-leb}
-use Rattle.gate_list_format.specs.Slots.{End, space, newline, fits, fault, verdict, field, read, Form, slot}
+use Rattle.gate_list_format.specs.Slots.{End, space, newline, fits, fault, verdict, field, read, line_after, Form, slot}
 use Rattle.gate_list_format.specs.Lists.{GateList, Pin, LawfulInput, LawfulPin, LawfulGate, is_name, pin_end, least_pins, most_pins, word_text, write_input, write_pins, write_gate}
 use Rattle.gate_list_format.specs.Reading.{pick, heading, count, source_name, bit, pin_forms, pin_count, pins_of, member, new_name, gate_word}
 use Rattle.gate_list_format.proofs.Forms.{put_same}
-use Rattle.gate_list_format.proofs.Judges.{source_fits, source_read, heading_fits, number_read, word_read, pins_read, name_fits, name_read, member_not}
+use Rattle.gate_list_format.proofs.Judges.{source_read, number_read, word_read, pins_read, name_read}
 use Rattle.gate_list_format.proofs.Laid.{pins_onto}
-use Rattle.gate_list_fields.proofs.Fields.{pick_none}
-use Rattle.gate_list_fields.specs.Taken.{Passed}
-use Rattle.gate_list_lines.specs.Lines.{pin_form, write_pin}
-
--- headings
-pub word_same : (word f : List ℕ) → 0 < length f → f ≡ word → verdict (heading word) f ≡ fits 0
-word_same word f l e = subst (λ w. verdict (heading w) f ≡ fits 0) e (heading_fits f l)
-
-pub word_other : (word f : List ℕ) → (0 < length f → f ≡ word → ⊥) → verdict (heading word) f ≡ fault 15
-word_other word [] h = refl
-word_other word (b ∷ bs) h = pick_none 15 (λ _. word) 0 1 (b ∷ bs) (λ a p q e. h (omega arith) e)
+use Rattle.gate_list_fields.specs.declared.Fault.{Fault}
+use Rattle.gate_list_fields.specs.declared.Fault.TheVariants.{Word}
+use Rattle.gate_list_fields.proofs.Numbers.{word_good, word_bad}
+use Rattle.gate_list_fields.specs.Taken.{Passed, Slotted, judged}
+use Rattle.gate_list_lines.specs.Lines.{HeadingRead, pin_form, write_pin}
 
 -- a count from 0
 pub count_is : (most : ℕ) → pick 16 decimal 0 (most + 1 - 0) ≡ count most
 count_is most = ap (λ k. pick 16 decimal 0 k) (let e : most + 1 - 0 ≡ suc most = omega arith in e)
 
-abbrev pub after_count : (ℕ → Form GateList) → List ℕ → ℕ → Form GateList
+abbrev after_count : (ℕ → Form GateList) → List ℕ → ℕ → Form GateList
 after_count next _ n = next n
 
 abbrev pub after_word : ℕ → (ℕ → Form GateList) → List ℕ → ℕ → Form GateList
 after_word most next _ _ = slot (count most) newline λ _ n. next n
 
+pub heading_read : (word text behind : List ℕ) (most : ℕ) (r : Result (ℕ × Bor (List ℕ)) Fault) → Passed (heading word) space text word 0 behind → Slotted (pick 16 decimal 0 (most + 1 - 0)) newline behind r → HeadingRead word most text r
+heading_read word text behind most (Ok x) taken counted =
+    let is = number_read 16 0 (most + 1 - 0) x.0 (field behind) counted.fits in
+    record {
+      few = omega (arith, is.1);
+      written = put_same text word word space behind _ taken.begins refl (put_same behind (field behind) (decimal x.0) newline x.1.now x.1.now counted.begins is.2 refl);
+      on = λ line next.
+          taken.on line (after_word most next)
+          ∙ ap (λ j. read (slot j newline (after_count next)) line behind) (sym (count_is most))
+          ∙ counted.on line (after_count next);
+    }
+heading_read word text behind most (Err f) taken counted = λ line next.
+    taken.on line (after_word most next)
+    ∙ ap (λ j. read (slot j newline (after_count next)) line behind) (sym (count_is most))
+    ∙ counted line (after_count next)
+
 -- names
-pub name_new : (seen : List (List ℕ)) (f : List ℕ) → is_name f ≡ true → member f seen ≡ false → verdict (new_name seen) f ≡ fits 0
-name_new seen f p q = (name_fits seen f p (member_not f seen q)).1
+pub name_new : (seen : List (List ℕ)) (f : List ℕ) → is_name f ≡ true → member f seen ≡ false → new_name seen f ≡ fits 0
+name_new seen f p q = cond-true (is_name f) _ (fault 15) p ∙ cond-false (member f seen) (fault 17) (fits 0) q
 
-pub name_repeated : (seen : List (List ℕ)) (f : List ℕ) → is_name f ≡ true → member f seen ≡ true → verdict (new_name seen) f ≡ fault 17
-name_repeated seen [] p q = let z : ◌≡◌ {A = ℕ} 0 1 = cc in absurd (omega arith)
-name_repeated seen (b ∷ bs) p q = cond-true (is_name (b ∷ bs)) _ (fault 15) p ∙ cond-true (member (b ∷ bs) seen) (fault 17) (fits 0) q
+pub name_repeated : (seen : List (List ℕ)) (f : List ℕ) → is_name f ≡ true → member f seen ≡ true → new_name seen f ≡ fault 17
+name_repeated seen f p q = cond-true (is_name f) _ (fault 15) p ∙ cond-true (member f seen) (fault 17) (fits 0) q
 
-pub source_good : (f : List ℕ) → is_name f ≡ true → verdict source_name f ≡ fits 0
-source_good f h = (source_fits f h).1
+-- a number within a range
+pub contained : (s e v : ℕ) → s ≤ v → v ≤ e → (is_le (nat_cmp s v) && is_le (nat_cmp v e)) ≡ true
+contained s e v a b = grind (arith, nat_tests)
+
+-- gate words
+pub word_judged : (f : List ℕ) (o : Option ℕ) (r : Result ℕ Fault) → r ≡ ok_or o Word → MatchOption o ((n : ℕ) → n < 10 → f ≡ word_text n → ⊥) (λ n. (n < 10) × (f ≡ word_text n)) → gate_word f ≡ judged r
+word_judged f None r e h = word_bad f h ∙ ap judged (sym e)
+word_judged f (Some n) r e h = word_good f n h.0 h.1 ∙ ap judged (sym e)
 
 -- an input line from its slots
 pub input_written : (seen : List (List ℕ)) (text name t₁ : List ℕ) (applied : ℕ) (t₂ : List ℕ) (start : ℕ) (rest : List ℕ) → Passed (new_name seen) space text name 0 t₁ → Passed bit space t₁ (field t₁) applied t₂ → Passed bit newline t₂ (field t₂) start rest → text ≡ write_input (record { name = name; applied = applied; start = start }) rest
@@ -52,17 +71,12 @@ pub input_lawful : (seen : List (List ℕ)) (text name t₁ : List ℕ) (applied
 input_lawful seen text name t₁ applied t₂ start rest p q r = record { name = (name_read seen name 0 p.fits).0; applied = (number_read 15 0 2 applied (field t₁) q.fits).1; start = (number_read 15 0 2 start (field t₂) r.fits).1 }
 
 -- pins
-pub pin_step : (total i : ℕ) (ps : List Pin) (next : List Pin → Form GateList) (line : ℕ) (text : List ℕ) → i < total - 1 → read (pin_forms (total - i) ps next) line text ≡ read (pin_form space (λ p. pin_forms (total - (i + 1)) (ps ++ (p ∷ [])) next)) line text
-pin_step total i ps next line text l =
-    let more : total - i ≡ suc (suc (total - (i + 2))) = omega arith in
-    let one : suc (total - (i + 2)) ≡ total - (i + 1) = omega arith in
-    ap (λ n. read (pin_forms n ps next) line text) more
-    ∙ ap (λ m. read (pin_form space (λ p. pin_forms m (ps ++ (p ∷ [])) next)) line text) one
+pub first_line : (k line : ℕ) → 0 < k → line_after (pin_end k) line ≡ line
+first_line zero line h = absurd (omega arith)
+first_line (suc m) line h = refl
 
-pub last_pin : (total i : ℕ) (ps : List Pin) (next : List Pin → Form GateList) (line : ℕ) (text : List ℕ) → total ≡ i + 1 → read (pin_forms (total - i) ps next) line text ≡ read (pin_form newline (λ p. next (ps ++ (p ∷ [])))) line text
-last_pin total i ps next line text l =
-    let one : total - i ≡ suc zero = omega arith in
-    ap (λ n. read (pin_forms n ps next) line text) one
+pub next_pin : (k m : ℕ) (ps : List Pin) (next : List Pin → Form GateList) (line : ℕ) (text : List ℕ) → k ≡ suc m → read (pin_forms k ps next) (line_after (pin_end k) line) text ≡ read (pin_form (pin_end m) (λ p. pin_forms m (ps ++ (p ∷ [])) next)) line text
+next_pin k m ps next line text e = ap (λ n. read (pin_forms n ps next) (line_after (pin_end n) line) text) e
 
 pub pin_written : (text source t₁ : List ℕ) (start : ℕ) (end : End) (rest : List ℕ) → Passed source_name space text source 0 t₁ → Passed bit end t₁ (field t₁) start rest → text ≡ write_pin (record { source = source; start = start }) end rest
 pin_written text source t₁ start end rest p q = put_same text source source space t₁ _ p.begins refl (put_same t₁ (field t₁) (decimal start) end rest rest q.begins (number_read 15 0 2 start (field t₁) q.fits).2 refl)
@@ -70,22 +84,23 @@ pin_written text source t₁ start end rest p q = put_same text source source sp
 pub pin_lawful : (text source t₁ : List ℕ) (start : ℕ) (end : End) (rest : List ℕ) → Passed source_name space text source 0 t₁ → Passed bit end t₁ (field t₁) start rest → LawfulPin (record { source = source; start = start })
 pin_lawful text source t₁ start end rest p q = record { source = source_read source 0 p.fits; start = (number_read 15 0 2 start (field t₁) q.fits).1 }
 
--- pins that others follow
-abbrev pub spaced : List Pin → List ℕ → List ℕ
-spaced [] rest = rest
-spaced (p ∷ ps) rest = write_pin p space (spaced ps rest)
+-- pins that so many more follow
+abbrev pub leading : ℕ → List Pin → List ℕ → List ℕ
+leading more [] rest = rest
+leading more (p ∷ ps) rest = write_pin p (pin_end (length ps + more)) (leading more ps rest)
 
-pub spaced_push : (ps : List Pin) (p : Pin) (rest : List ℕ) → spaced ps (write_pin p space rest) ≡ spaced (ps ++ (p ∷ [])) rest
-spaced_push [] p rest = refl
-spaced_push (q ∷ ps) p rest = ap (write_pin q space) (spaced_push ps p rest)
+leading_one : (m : ℕ) (ps : List Pin) (p : Pin) (rest : List ℕ) → leading (suc m) ps (write_pin p (pin_end m) rest) ≡ leading m (ps ++ (p ∷ [])) rest
+leading_one m [] p rest = ap (λ n. write_pin p (pin_end n) rest) (let e : m ≡ 0 + m = omega arith in e)
+leading_one m (q ∷ qs) p rest =
+    ap (write_pin q (pin_end (length qs + suc m))) (leading_one m qs p rest)
+    ∙ ap (λ n. write_pin q (pin_end n) (leading m (qs ++ (p ∷ [])) rest)) (let e : length qs + suc m ≡ length (qs ++ (p ∷ [])) + m = omega (arith, length_push qs p) in e)
 
-end_before : (ps : List Pin) (p : Pin) → space ≡ pin_end (length (ps ++ (p ∷ [])))
-end_before [] p = refl
-end_before (q ∷ ps) p = refl
+pub leading_push : (k m : ℕ) (ps : List Pin) (p : Pin) (rest : List ℕ) → k ≡ suc m → leading k ps (write_pin p (pin_end m) rest) ≡ leading m (ps ++ (p ∷ [])) rest
+leading_push k m ps p rest e = ap (λ n. leading n ps (write_pin p (pin_end m) rest)) e ∙ leading_one m ps p rest
 
-pub spaced_last : (ps : List Pin) (p : Pin) (rest : List ℕ) → spaced ps (write_pin p newline rest) ≡ write_pins (ps ++ (p ∷ [])) rest
-spaced_last [] p rest = refl
-spaced_last (q ∷ ps) p rest = ap (write_pin q space) (spaced_last ps p rest) ∙ ap (λ e. write_pin q e (write_pins (ps ++ (p ∷ [])) rest)) (end_before ps p)
+pub leading_all : (ps : List Pin) (rest : List ℕ) → leading 0 ps rest ≡ write_pins ps rest
+leading_all [] rest = refl
+leading_all (p ∷ ps) rest = ap (λ n. write_pin p (pin_end n) (leading 0 ps rest)) (let e : length ps + 0 ≡ length ps = omega arith in e) ∙ ap (write_pin p (pin_end (length ps))) (leading_all ps rest)
 
 pub all_push : (ps : List Pin) (p : Pin) → AllByRecursion LawfulPin ps → LawfulPin p → AllByRecursion LawfulPin (ps ++ (p ∷ []))
 all_push ps p h l = All-append LawfulPin ps (p ∷ []) h (l, tt)

@@ -1,5 +1,5 @@
 -- What code answers of headings, pins and lines, whatever follows them in the text.
-use Rattle.std.specs.Prelude.{◌≡◌, ℕ, ◌+◌, ◌≤◌, List, [], length, Ok, Err, decimal, Result}
+use Rattle.std.specs.Prelude.{◌≡◌, ℕ, ◌+◌, ◌≤◌, List, [], length, Ok, Err, Some, None, decimal, codes, Option, Result}
 use Rattle.std.specs.Borrow.{Bor}
 use Rattle.std.specs.List.{AllByRecursion}
 use Rattle.gate_list_format.specs.Slots.{End, space, newline, refused, Form, slot, read, line_after, put}
@@ -8,6 +8,10 @@ use Rattle.gate_list_format.specs.Reading.{heading, heading_form, source_name, b
 use Rattle.gate_list_fields.specs.declared.Fault.{Fault}
 use Rattle.gate_list_fields.specs.Faults.{number_of}
 use Rattle.gate_list_fields.specs.Taken.{Passed, Failed}
+use Rattle.gate_list_lines.specs.declared.InputFields.{InputFields}
+use Rattle.gate_list_lines.specs.declared.GateFields.{GateFields}
+use Rattle.gate_list_lines.specs.declared.Section.{Section}
+use Rattle.gate_list_lines.specs.declared.Section.TheVariants.{Inputs, Gates}
 use Rattle.gate_list_lines.specs.declared.Line.{Line}
 use Rattle.gate_list_lines.specs.declared.Line.TheVariants.{Input as InputVariant, Gate as GateVariant}
 use Rattle.gate_list_lines.specs.declared.PinFields.{PinFields}
@@ -34,22 +38,35 @@ abbrev pub HeadingRead : List ℕ → ℕ → List ℕ → Result (ℕ × Bor (L
 HeadingRead word most text (Ok x) = HeadingIs word most text x.0 x.1.now
 HeadingRead word most text (Err f) = Stops (heading_form word most) text (number_of f)
 
+-- a section's word, and the most lines that it may have
+abbrev pub section_word : Section → List ℕ
+section_word Inputs = codes "inputs"
+section_word Gates = codes "gates"
+
+abbrev pub section_most : Section → ℕ
+section_most Inputs = 32
+section_most Gates = 96
+
 abbrev pub line_name : Line → List ℕ
-line_name (InputVariant name applied start) = name.now
-line_name (GateVariant name kind count start pins) = name.now
+line_name (InputVariant fields) = fields.name.now
+line_name (GateVariant fields) = fields.name.now
 
-abbrev pub line_kind : Line → ℕ
-line_kind (InputVariant name applied start) = 0
-line_kind (GateVariant name kind count start pins) = kind
+abbrev pub line_input : Line → Option InputFields
+line_input (InputVariant fields) = Some fields
+line_input (GateVariant fields) = None
 
-abbrev pub line_pins : Line → ℕ
-line_pins (InputVariant name applied start) = 0
-line_pins (GateVariant name kind count start pins) = count
+abbrev pub line_gate : Line → Option GateFields
+line_gate (InputVariant fields) = None
+line_gate (GateVariant fields) = Some fields
+
+-- the fields are those of an input
+abbrev pub IsInputFields : InputFields → Input → Type 0
+IsInputFields fields i = (fields.name.now ≡ i.name) × (fields.applied ≡ i.applied) × (fields.start ≡ i.start)
 
 -- a read line is that input
 abbrev pub IsInput : Line → Input → Type 0
-IsInput (InputVariant name applied start) i = (name.now ≡ i.name) × (applied ≡ i.applied) × (start ≡ i.start)
-IsInput (GateVariant name kind count start pins) i = ⊥
+IsInput (InputVariant fields) i = IsInputFields fields i
+IsInput (GateVariant fields) i = ⊥
 
 pub record InputIs (seen : List (List ℕ)) (text : List ℕ) (i : Input) (rest : List ℕ) : Type 0 where
   pub lawful : LawfulInput i
@@ -93,10 +110,14 @@ abbrev pub PinsRead : ℕ → List ℕ → Result (Bor (List ℕ)) Fault → Typ
 PinsRead count text (Ok rest) = (ps : List Pin) × PinsAre count text ps rest.now
 PinsRead count text (Err f) = Stops (pin_forms count []) text (number_of f)
 
+-- the fields are those of a gate
+abbrev pub IsGateFields : GateFields → Gate → Type 0
+IsGateFields fields g = (fields.name.now ≡ g.name) × (fields.kind ≡ kind_of g.word (length g.pins)) × (fields.pin_count ≡ length g.pins) × (fields.start ≡ g.start) × (fields.pins.now ≡ write_pins g.pins [])
+
 -- a read line is that gate
 abbrev pub IsGate : Line → Gate → Type 0
-IsGate (InputVariant name applied start) g = ⊥
-IsGate (GateVariant name kind count start pins) g = (name.now ≡ g.name) × (kind ≡ kind_of g.word (length g.pins)) × (count ≡ length g.pins) × (start ≡ g.start) × (pins.now ≡ write_pins g.pins [])
+IsGate (InputVariant fields) g = ⊥
+IsGate (GateVariant fields) g = IsGateFields fields g
 
 pub record GateIs (seen : List (List ℕ)) (before : ℕ) (text : List ℕ) (g : Gate) (rest : List ℕ) : Type 0 where
   pub lawful : LawfulGate g

@@ -1,35 +1,43 @@
 //! The lines of a gate list, read from a borrowed text.
 #![tactic(auto)]
 
-ghost use Rattle.std.specs.Prelude.{◌≡◌, ◌<◌, ◌++◌, codes};
+ghost use Rattle.std.specs.Prelude.{◌≡◌, ◌<◌};
 ghost use Rattle.gate_list_format.specs.Lists.{pin_end as pins_end};
 ghost use Rattle.gate_list_fields.specs.Taken.{end_of};
-ghost use Rattle.gate_list_names.specs.Names.{input_names_in, gate_names_in};
-ghost use Rattle.gate_list_lines.specs.Lines.{HeadingRead, PinRead, PinsRead, InputLine, GateLine, line_name, line_kind, line_pins};
+ghost use Rattle.gate_list_names.specs.Given.{all_names};
+ghost use Rattle.gate_list_lines.specs.Lines.{HeadingRead, PinRead, PinsRead, InputLine, GateLine, section_word, section_most, line_name, line_input, line_gate};
 
 use gate_list_fields::{End, Fault, bit_slot};
-use gate_list_names::{GateEntry, InputEntry};
+use gate_list_names::Names;
 use slots::{count_slot, name_slot, source_slot, word_taken};
 use words::{kind_of, pin_count_slot, word_slot};
 
 mod slots;
 mod words;
 
-/// A read line; the names are parts of the text, and a gate's pin fields are one part
+/// What an input line says; the name is a part of the text
+#[derive(Clone, Copy)]
+pub struct InputFields<'a> {
+    pub name: &'a [u8],
+    pub applied: u8,
+    pub start: u8,
+}
+
+/// What a gate line says; the name and the pins' fields are parts of the text
+#[derive(Clone, Copy)]
+pub struct GateFields<'a> {
+    pub name: &'a [u8],
+    pub kind: usize,
+    pub pin_count: u8,
+    pub start: u8,
+    pub pins: &'a [u8],
+}
+
+/// A read line
 #[derive(Clone, Copy)]
 pub enum Line<'a> {
-    Input {
-        name: &'a [u8],
-        applied: u8,
-        start: u8,
-    },
-    Gate {
-        name: &'a [u8],
-        kind: usize,
-        pin_count: u8,
-        start: u8,
-        pins: &'a [u8],
-    },
+    Input(InputFields<'a>),
+    Gate(GateFields<'a>),
 }
 
 /// The fields of a pin: its source's name, a part of the text, and its wire's start bit
@@ -39,68 +47,82 @@ pub struct PinFields<'a> {
     pub start: u8,
 }
 
-/// The heading of the inputs: how many there are, and the text behind it
-pub fn input_heading(text: &[u8]) -> Result<(u8, &[u8]), Fault>
-    ensures { HeadingRead (codes "inputs") 32 text.now result }
-{
-    heading(text, b"inputs", 32)
+/// A section of a gate list
+#[derive(Clone, Copy, PartialEq, Eq, Debug)]
+pub enum Section {
+    Inputs,
+    Gates,
 }
 
-/// The heading of the gates: how many there are, and the text behind it
-pub fn gate_heading(text: &[u8]) -> Result<(u8, &[u8]), Fault>
-    ensures { HeadingRead (codes "gates") 96 text.now result }
-{
-    heading(text, b"gates", 96)
+impl Section {
+    /// The word of its heading
+    fn word(self) -> &'static [u8]
+        ensures { result.now ≡ section_word self }
+    {
+        match self {
+            Section::Inputs => b"inputs",
+            Section::Gates => b"gates",
+        }
+    }
+
+    /// The most lines that it may have
+    fn most(self) -> u8
+        ensures most { result ≡ section_most self }
+        ensures small { result < 100 }
+    {
+        match self {
+            Section::Inputs => 32,
+            Section::Gates => 96,
+        }
+    }
 }
 
-/// An input line whose name none of the entries has, and the text behind it
-pub fn input_line<'a>(
-    text: &'a [u8],
-    whole: &[u8],
-    inputs: &[InputEntry],
-) -> Result<(Line<'a>, &'a [u8]), Fault>
-    ensures { InputLine (input_names_in whole.now inputs.now) text.now result }
+/// The heading of a section: how many lines it has, and the text behind it
+pub fn heading(text: &[u8], section: Section) -> Result<(u8, &[u8]), Fault>
+    ensures { HeadingRead (section_word section) (section_most section) text.now result }
 {
-    let (name, text) = name_slot(text, whole, inputs, &[])?;
+    let behind = word_taken(text, section.word())?;
+    count_slot(behind, section.most())
+}
+
+/// An input line whose name is none of those given, and the text behind it
+pub fn input_line<'a>(text: &'a [u8], names: Names<'_>) -> Result<(Line<'a>, &'a [u8]), Fault>
+    ensures { InputLine (all_names names.entry) text.now result }
+{
+    let (name, text) = name_slot(text, names)?;
     let (applied, text) = bit_slot(text, End::Space)?;
     let (start, text) = bit_slot(text, End::Newline)?;
-    Ok((
-        Line::Input {
-            name,
-            applied,
-            start,
-        },
-        text,
-    ))
+    let fields = InputFields {
+        name,
+        applied,
+        start,
+    };
+    Ok((Line::Input(fields), text))
 }
 
-/// A gate line whose name none of the entries has, behind so many wires, and the text behind it
+/// A gate line whose name is none of those given, behind so many wires, and the text behind it
 pub fn gate_line<'a>(
     text: &'a [u8],
-    whole: &[u8],
-    inputs: &[InputEntry],
-    gates: &[GateEntry],
+    names: Names<'_>,
     before: usize,
 ) -> Result<(Line<'a>, &'a [u8]), Fault>
-    ensures { GateLine (input_names_in whole.now inputs.now ++ gate_names_in whole.now gates.now) before text.now result }
+    ensures { GateLine (all_names names.entry) before text.now result }
 {
-    let (name, text) = name_slot(text, whole, inputs, gates)?;
+    let (name, text) = name_slot(text, names)?;
     let (word, text) = word_slot(text)?;
     let (pin_count, text) = pin_count_slot(text, word, before)?;
     let (start, text) = bit_slot(text, End::Space)?;
     let rest = pins_part(text, pin_count)?;
     let kind = kind_of(word, pin_count);
     let pins = &text[..text.len() - rest.len()];
-    Ok((
-        Line::Gate {
-            name,
-            kind,
-            pin_count,
-            start,
-            pins,
-        },
-        rest,
-    ))
+    let fields = GateFields {
+        name,
+        kind,
+        pin_count,
+        start,
+        pins,
+    };
+    Ok((Line::Gate(fields), rest))
 }
 
 /// One pin's fields, and the text behind their end
@@ -125,40 +147,30 @@ impl<'a> Line<'a> {
         ensures { result.now ≡ line_name self.entry }
     {
         match self {
-            Line::Input { name, .. } => name,
-            Line::Gate { name, .. } => name,
+            Line::Input(fields) => fields.name,
+            Line::Gate(fields) => fields.name,
         }
     }
 
-    /// The kind in a gate line
-    pub fn kind(self) -> usize
-        ensures { result ≡ line_kind self.entry }
+    /// The fields of an input line
+    pub fn input(self) -> Option<InputFields<'a>>
+        ensures { result ≡ line_input self.entry }
     {
         match self {
-            Line::Input { .. } => 0,
-            Line::Gate { kind, .. } => kind,
+            Line::Input(fields) => Some(fields),
+            Line::Gate(_) => None,
         }
     }
 
-    /// The pin count in a gate line
-    pub fn pin_count(self) -> u8
-        ensures { result ≡ line_pins self.entry }
+    /// The fields of a gate line
+    pub fn gate(self) -> Option<GateFields<'a>>
+        ensures { result ≡ line_gate self.entry }
     {
         match self {
-            Line::Input { .. } => 0,
-            Line::Gate { pin_count, .. } => pin_count,
+            Line::Input(_) => None,
+            Line::Gate(fields) => Some(fields),
         }
     }
-}
-
-/// A heading: its word and a count
-fn heading<'a>(text: &'a [u8], word: &[u8], most: u8) -> Result<(u8, &'a [u8]), Fault>
-    requires { most < 100 }
-    ensures { HeadingRead word.now most text.now result }
-{
-    let behind = word_taken(text, word)?;
-    let (count, rest) = count_slot(behind, most)?;
-    Ok((count, rest))
 }
 
 /// The text behind so many pins and the line's end
@@ -167,8 +179,8 @@ fn pins_part(text: &[u8], count: u8) -> Result<&[u8], Fault>
     ensures { PinsRead count text.now result }
 {
     let mut rest = text;
-    for i in 0..count - 1 {
-        rest = pin(rest, End::Space)?.1;
+    for more in (0..count).rev() {
+        rest = pin(rest, pin_end(more))?.1;
     }
-    Ok(pin(rest, End::Newline)?.1)
+    Ok(rest)
 }

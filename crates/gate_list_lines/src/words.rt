@@ -1,12 +1,12 @@
 //! Gate words: their meanings, and the slots of a word and its pin count.
 ghost use Rattle.std.specs.Prelude.{◌≡◌, ◌+◌, ◌<◌, ◌≤◌, IfOk};
-ghost use Rattle.gate_list_format.specs.Slots.{space, verdict};
+ghost use Rattle.gate_list_format.specs.Slots.{space};
 ghost use Rattle.gate_list_format.specs.Lists.{least_pins, most_pins, kind_of as kind_by_word};
-ghost use Rattle.gate_list_format.specs.Reading.{gate_word, pin_count};
+ghost use Rattle.gate_list_format.specs.Reading.{gate_word as word_judge, pin_count as count_judge};
 ghost use Rattle.gate_list_fields.specs.Taken.{judged, Slotted};
 
-use crate::slots::number;
-use gate_list_fields::{End, Fault, close, split_field, word_number};
+use crate::slots::{number, slot};
+use gate_list_fields::{End, Fault, word_number};
 
 /// The most wires of a circuit
 const MOST_WIRES: usize = 384;
@@ -19,6 +19,7 @@ struct Meaning {
     most: u8,
 }
 
+// Plain numbers in a constant table: a kind is a number of the gate library's list.
 /// The meanings by word number
 static MEANINGS: [Meaning; 10] = [
     Meaning {
@@ -73,30 +74,20 @@ static MEANINGS: [Meaning; 10] = [
     },
 ];
 
-/// A gate word's number, or its fault
-fn word(field: &[u8]) -> Result<u8, Fault>
-    ensures { verdict gate_word field.now ≡ judged result }
+/// The number of a gate word, or its fault
+fn gate_word(field: &[u8]) -> Result<u8, Fault>
+    ensures judge { word_judge field.now ≡ judged result }
+    ensures range { IfOk result (λ n. n < 10) }
 {
-    if field.is_empty() {
-        return Err(Fault::Form);
-    }
-    match word_number(field) {
-        Some(n) => Ok(n),
-        None => Err(Fault::Word),
-    }
+    word_number(field).ok_or(Fault::Word)
 }
 
 /// A gate word and its end, or the fault
 pub(crate) fn word_slot(text: &[u8]) -> Result<(u8, &[u8]), Fault>
-    ensures slot { Slotted gate_word space text.now result }
+    ensures slot { Slotted word_judge space text.now result }
     ensures range { IfOk result (λ x. x.0 < 10) }
 {
-    let (field, behind) = split_field(text);
-    let value = word(field)?;
-    match close(behind, End::Space) {
-        Some(rest) => Ok((value, rest)),
-        None => Err(Fault::Form),
-    }
+    slot(text, End::Space, gate_word)
 }
 
 fn meaning_of(word: u8) -> Meaning
@@ -105,7 +96,7 @@ fn meaning_of(word: u8) -> Meaning
     ensures most { result.most ≡ most_pins word }
     ensures kind { result.kind ≡ kind_by_word word (least_pins word) }
 {
-    MEANINGS[word as usize]
+    MEANINGS[usize::from(word)]
 }
 
 /// The kind that a word names with so many pins
@@ -114,32 +105,31 @@ pub(crate) fn kind_of(word: u8, count: u8) -> usize
     ensures { result ≡ kind_by_word word count }
 {
     let meaning = meaning_of(word);
-    meaning.kind + 2 * (count - meaning.least) as usize
+    meaning.kind + 2 * usize::from(count - meaning.least)
 }
 
-/// A pin count that the word takes and that the wires have room for, or the fault
-pub(crate) fn pin_count_slot(text: &[u8], word: u8, before: usize) -> Result<(u8, &[u8]), Fault>
+/// A pin count that the word takes and that the wires have room for, or its fault
+fn pin_count(field: &[u8], word: u8, before: usize) -> Result<u8, Fault>
     requires { word < 10 }
-    ensures slot { Slotted (pin_count word before) space text.now result }
-    ensures range { IfOk result (λ x. (0 < x.0) × (before + x.0 ≤ 384) × (least_pins word ≤ x.0) × (x.0 ≤ most_pins word)) }
+    ensures judge { count_judge word before field.now ≡ judged result }
+    ensures range { IfOk result (λ p. (0 < p) × (before + p ≤ 384) × (least_pins word ≤ p) × (p ≤ most_pins word)) }
 {
-    let (field, behind) = split_field(text);
     let count = number(field, 1, 8)?;
     let meaning = meaning_of(word);
-    if count < meaning.least {
+    if !(meaning.least..=meaning.most).contains(&count) {
         return Err(Fault::Word);
     }
-    if meaning.most < count {
-        return Err(Fault::Word);
-    }
-    if before > MOST_WIRES {
+    if usize::from(count) > MOST_WIRES.saturating_sub(before) {
         return Err(Fault::Wires);
     }
-    if before + count as usize > MOST_WIRES {
-        return Err(Fault::Wires);
-    }
-    match close(behind, End::Space) {
-        Some(rest) => Ok((count, rest)),
-        None => Err(Fault::Form),
-    }
+    Ok(count)
+}
+
+/// A pin count that the word takes and that the wires have room for, and its end, or the fault
+pub(crate) fn pin_count_slot(text: &[u8], word: u8, before: usize) -> Result<(u8, &[u8]), Fault>
+    requires { word < 10 }
+    ensures slot { Slotted (count_judge word before) space text.now result }
+    ensures range { IfOk result (λ x. (0 < x.0) × (before + x.0 ≤ 384) × (least_pins word ≤ x.0) × (x.0 ≤ most_pins word)) }
+{
+    slot(text, End::Space, |field| pin_count(field, word, before))
 }

@@ -1,6 +1,7 @@
 -- A written line is read again as it is.
 use Rattle.std.proofs.Common.{◌≡◌, ℕ, ◌+◌, ◌-◌, ◌<◌, ◌≤◌, List, [], ◌∷◌, length, drop, Some, None, Ok, Err, decimal, Option, Result, sym, refl, ap, ◌∙◌, subst, arith, length-drop, Bor}
 use Rattle.std.specs.List.{AllByRecursion}
+use Rattle.std.specs.Result.{result_ok}
 use Rattle.std.proofs.ByRecursion.{All-drop}
 use Rattle.std.proofs.lemmas.List.{drop_more}
 use Rattle.gate_list_format.specs.Slots.{End, Form, slot, ends, read, accepted, refused, space, newline, put, behind, past, fault, step, verdict}
@@ -11,8 +12,10 @@ use Rattle.gate_list_format.proofs.Slotted.{field_put}
 use Rattle.gate_list_format.proofs.Passed.{input_passed, gate_passed, pin_passed, input_same, gate_same, pin_same}
 use Rattle.gate_list_fields.specs.declared.Fault.{Fault}
 use Rattle.gate_list_fields.specs.Faults.{number_of}
-use Rattle.gate_list_lines.specs.Lines.{Stops, pin_form, IsInput, IsGate, IsPin, PinRead}
+use Rattle.gate_list_lines.specs.Lines.{InputLine, GateLine, Stops, pin_form, IsInputFields, IsGateFields, IsPin, PinRead}
 use Rattle.gate_list_lines.specs.declared.Line.{Line}
+use Rattle.gate_list_lines.specs.declared.InputFields.{InputFields}
+use Rattle.gate_list_lines.specs.declared.GateFields.{GateFields}
 use Rattle.gate_list_lines.specs.declared.PinFields.{PinFields}
 use Rattle.gate_list_lookup.specs.Lookup.{InputAt, GateAt, PinAt, PinOf, pin_number}
 
@@ -36,12 +39,21 @@ gate_not text n stops g rest l e =
     let room : 0 + length g.pins ≤ 384 = omega (arith, l.most) in
     not_here rest n (sym (ap (read (gate_form [] 0 next) 0) e ∙ gate_passed [] 0 next 0 g rest l tt room) ∙ stops 0 next)
 
--- the line at its place is that line
-pub input_is : (text : List ℕ) (line : Line) (i : Input) (rest : List ℕ) → InputAt text (Some line) → LawfulInput i → text ≡ write_input i rest → IsInput line i
-input_is text line i rest h l e = subst (IsInput line) (input_same h.0 i h.1 rest h.2 l (sym h.3 ∙ e)).0 h.4
+-- no line is read there
+pub input_lost : (seen : List (List ℕ)) (text from : List ℕ) (r : Result (Line × Bor (List ℕ)) Fault) → seen ≡ [] → from ≡ text → None ≡ result_ok r → InputLine seen from r → InputAt text None
+input_lost seen text from (Ok x) e is lost h = cc
+input_lost seen text from (Err f) e is lost h = input_not text (number_of f) (subst (λ t. Stops (input_form []) t (number_of f)) is (subst (λ (s : List (List ℕ)). Stops (input_form s) from (number_of f)) e h))
 
-pub gate_is : (text : List ℕ) (line : Line) (g : Gate) (rest : List ℕ) → GateAt text (Some line) → LawfulGate g → text ≡ write_gate g rest → IsGate line g
-gate_is text line g rest h l e = subst (IsGate line) (gate_same h.0 g h.1 rest h.2 l (sym h.3 ∙ e)).0 h.4
+pub gate_lost : (seen : List (List ℕ)) (text from : List ℕ) (r : Result (Line × Bor (List ℕ)) Fault) → seen ≡ [] → from ≡ text → None ≡ result_ok r → GateLine seen 0 from r → GateAt text None
+gate_lost seen text from (Ok x) e is lost h = cc
+gate_lost seen text from (Err f) e is lost h = gate_not text (number_of f) (subst (λ t. Stops (gate_form [] 0) t (number_of f)) is (subst (λ (s : List (List ℕ)). Stops (gate_form s 0) from (number_of f)) e h))
+
+-- the line at its place is that line
+pub input_is : (text : List ℕ) (fields : InputFields) (i : Input) (rest : List ℕ) → InputAt text (Some fields) → LawfulInput i → text ≡ write_input i rest → IsInputFields fields i
+input_is text fields i rest h l e = subst (IsInputFields fields) (input_same h.0 i h.1 rest h.2 l (sym h.3 ∙ e)).0 h.4
+
+pub gate_is : (text : List ℕ) (fields : GateFields) (g : Gate) (rest : List ℕ) → GateAt text (Some fields) → LawfulGate g → text ≡ write_gate g rest → IsGateFields fields g
+gate_is text fields g rest h l e = subst (IsGateFields fields) (gate_same h.0 g h.1 rest h.2 l (sym h.3 ∙ e)).0 h.4
 
 -- the next pin of a gate's pin fields is found
 abbrev pub PinAgain : Pin → List ℕ → Result (PinFields × Bor (List ℕ)) Fault → Type 0
@@ -86,6 +98,14 @@ pin_turn ps p count e rest r l n less is end h =
     let split = drop_more ps p (record { source = []; start = 0 }) (omega arith) in
     let long : count - p - 1 ≡ length (drop (p + 1) ps) = omega (arith, length-drop (p + 1) ps) in
     pin_again (pin_number ps p) (drop (p + 1) ps) rest r (subst (AllByRecursion LawfulPin) split (All-drop LawfulPin p ps l)) (is ∙ ap (λ t. write_pins t []) split) (subst (λ x. PinRead x rest r) (end ∙ ap pin_end long) h)
+
+pub turn_lost : (p : Pin) (rest : List ℕ) (r : Result (PinFields × Bor (List ℕ)) Fault) → None ≡ result_ok r → PinAgain p rest r → ⊥
+turn_lost p rest (Ok x) lost h = let z : ◌≡◌ {A = ℕ} 0 1 = cc in absurd (omega arith)
+turn_lost p rest (Err f) lost h = h
+
+pub turn_found : (p : Pin) (rest : List ℕ) (r : Result (PinFields × Bor (List ℕ)) Fault) (x : PinFields × Bor (List ℕ)) → Some x ≡ result_ok r → PinAgain p rest r → IsPin x.0 p × (x.1.now ≡ rest)
+turn_found p rest (Ok y) x found h = let same : y ≡ x = cc in subst (λ z. IsPin z.0 p × (z.1.now ≡ rest)) same h
+turn_found p rest (Err f) x found h = absurd h
 
 -- the pin at its number is that pin
 pub pin_is : (text : List ℕ) (p : ℕ) (fields : PinFields) (g : Gate) (rest : List ℕ) → PinAt text p (Some fields) → LawfulGate g → text ≡ write_gate g rest → PinOf g.pins p (Some fields)

@@ -1,18 +1,26 @@
--- Blanking one more entry of a table.
-use Rattle.std.proofs.Common.{◌≡◌, ℕ, ◌+◌, ◌-◌, ◌<◌, ◌≤◌, List, [], ◌∷◌, ◌++◌, length, get_or, take, drop, set, replicate, sym, ap, ◌∙◌, arith, length-take}
-use Rattle.std.proofs.lemmas.List.{append_assoc, append-nil, length-append, length-replicate, take-append-drop, drop_all, drop_more, set_at, replicate_more}
+-- A table that is blank from an entry on.
+use Rattle.std.proofs.Common.{◌≡◌, ℕ, ◌-◌, List, [], ◌∷◌, ◌++◌, length, take, drop, replicate, min, sym, ap, ◌∙◌, ⊎_elim, arith, length-drop, refl}
+use Rattle.std.specs.List.{FoldsTo}
+use Rattle.std.proofs.lemmas.List.{append-nil, drop_all, take_all}
+use Rattle.std.proofs.lemmas.Bool.{cases_lt}
+use borrow.Rule.Slice.PartMut.{put_mid}
 
-pub blank_none : {X : Type 0} (xs : List X) (from : ℕ) (y : X) → xs ≡ take from xs ++ (replicate (from - from) y ++ drop from xs)
-blank_none xs from y = sym (take-append-drop from xs) ∙ ap (λ n. take from xs ++ (replicate n y ++ drop from xs)) (let e : 0 ≡ from - from = omega arith in e)
+-- calls that each give y, and leave what they are called on as it was
+pub all_one : {P X : Type 0} (R : P → X → P → Type 0) (f : P) (xs : List X) (last : P) (y : X) → FoldsTo R f xs last → ((x : X) (q : P) → R f x q → (q ≡ f) × (x ≡ y)) → xs ≡ replicate (length xs) y
+all_one R f [] last y folds each = refl
+all_one R f (x ∷ xs) last y folds each =
+    let here = each x folds.0 folds.1 in
+    let rest = folds.2 in
+    ap (λ t. t ∷ xs) here.1 ∙ ap (λ t. y ∷ t) (all_one R f xs last y (rw here.0 at rest) each)
 
-pub blank_more : {X : Type 0} (xs : List X) (from i : ℕ) (y : X) → from ≤ i → i < length xs → set (take from xs ++ (replicate (i - from) y ++ drop i xs)) i y ≡ take from xs ++ (replicate (i + 1 - from) y ++ drop (i + 1) xs)
-blank_more xs from i y l h =
-    let p = take from xs ++ replicate (i - from) y in
-    let long : length p ≡ i = omega (arith, length-append (take from xs) (replicate (i - from) y), length-take from xs, length-replicate (i - from) y) in
-    ap (λ t. set t i y) (ap (λ t. take from xs ++ (replicate (i - from) y ++ t)) (drop_more xs i y h) ∙ sym (append_assoc (take from xs) (replicate (i - from) y) (get_or xs i y ∷ drop (i + 1) xs)))
-    ∙ set_at p (get_or xs i y) (drop (i + 1) xs) y i long
-    ∙ append_assoc (take from xs) (replicate (i - from) y) (y ∷ drop (i + 1) xs)
-    ∙ ap (λ t. take from xs ++ t) (sym (append_assoc (replicate (i - from) y) (y ∷ []) (drop (i + 1) xs)) ∙ ap (λ t. t ++ drop (i + 1) xs) (replicate_more (i - from) y) ∙ ap (λ n. replicate n y ++ drop (i + 1) xs) (let e : i - from + 1 ≡ i + 1 - from = omega arith in e))
-
-pub blank_all : {X : Type 0} (xs : List X) (from i n : ℕ) (y : X) → length xs ≤ i → i - from ≡ n → take from xs ++ (replicate (i - from) y ++ drop i xs) ≡ take from xs ++ replicate n y
-blank_all xs from i n y l e = ap (λ t. take from xs ++ t) (ap (λ t. replicate (i - from) y ++ t) (drop_all i xs l) ∙ append-nil (replicate (i - from) y) ∙ ap (λ m. replicate m y) e)
+pub filled_from : {X : Type 0} (xs ys : List X) (from start : ℕ) (y : X) → start ≡ min from (length xs) → length ys ≡ length xs - start → ys ≡ replicate (length ys) y → put_mid start (length xs - start) xs ys ≡ take from xs ++ replicate (length xs - from) y
+filled_from xs ys from start y s long blank =
+    let none : drop (length xs - start) (drop start xs) ≡ [] = drop_all (length xs - start) (drop start xs) (omega (arith, length-drop start xs)) in
+    let front : take start xs ≡ take from xs = ⊎_elim
+    (λ h. ap (λ n. take n xs) (let same : start ≡ from = omega arith in same))
+    (λ h. take_all start xs (omega arith) ∙ sym (take_all from xs (omega arith)))
+    (cases_lt from (length xs)) in
+    let many : length ys ≡ length xs - from = omega arith in
+    ap (λ t. take start xs ++ (ys ++ t)) none
+    ∙ ap (λ t. take start xs ++ t) (append-nil ys ∙ blank ∙ ap (λ n. replicate n y) many)
+    ∙ ap (λ t. t ++ replicate (length xs - from) y) front

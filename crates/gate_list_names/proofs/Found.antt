@@ -1,20 +1,34 @@
 -- The name that an entry gives, as code reads it, and what a search says of membership.
-use Rattle.std.proofs.Common.{◌≡◌, ℕ, zero, suc, ◌<◌, Bool, true, false, ◌||◌, List, [], ◌∷◌, ◌++◌, length, get_or, is_some, Some, None, Option, sym, refl, ap, ◌∙◌, arith}
+use Rattle.std.proofs.Common.{◌≡◌, ℕ, zero, suc, ◌<◌, Bool, true, false, ◌||◌, List, [], ◌∷◌, ◌++◌, length, get_or, is_some, Some, None, Option, map, subst, sym, refl, ap, ◌∙◌, arith}
 use Rattle.std.specs.Str.{bytes_eq}
+use Rattle.std.specs.List.{AllWithin, HoldsAt}
+use Rattle.std.specs.Option.{MatchOption, option_map}
 use Rattle.std.proofs.lemmas.Slice.Eq.{bytes_eq-Decides}
-use Rattle.std.proofs.lemmas.List.{get_or-map}
-use Rattle.std.proofs.lemmas.Bool.{or_left, or_right, or_from}
+use Rattle.std.proofs.lemmas.List.{get_or-map, length-map}
+use Rattle.std.proofs.lemmas.Bool.{or_left, or_right, or_from, both_ways}
 use Rattle.gate_list_format.specs.Reading.{member}
-use Rattle.gate_list_names.specs.Names.{at, names_in, First}
+use Rattle.gate_list_names.specs.Names.{First}
 use Rattle.gate_list_names.specs.Sources.{FirstSource}
-use Rattle.gate_list_names.specs.declared.Source.{Source}
-use Rattle.gate_list_names.specs.declared.Source.TheVariants.{Input, Gate}
+use Rattle.circuit.specs.declared.Source.{Source}
+use Rattle.circuit.specs.declared.Source.TheVariants.{Input, Gate}
 
-pub name_read : {E : Type 0} (start size : E → ℕ) (text : List ℕ) (table : List E) (k p n : ℕ) (x : E) → k < length table → x ≡ get_or table k x → p ≡ start x → n ≡ size x → at text p n ≡ get_or (names_in start size text table) k []
-name_read start size text table k p n x l is e e₁ =
-    ap (λ q. at text q n) e ∙ ap (λ m. at text (start x) m) e₁
-    ∙ ap (λ y. at text (start y) (size y)) is
-    ∙ sym (get_or-map (λ y. at text (start y) (size y)) table k x [] l)
+named : {E : Type 0} (h : E → List ℕ) (table : List E) (k : ℕ) → k < length table → (P : List ℕ → Type 0) → HoldsAt (λ y. P (h y)) table k → P (get_or (map h table) k [])
+named h [] k l P holds = absurd (omega arith)
+named h (x ∷ xs) k l P holds = subst P (sym (get_or-map h (x ∷ xs) k x [] l)) (holds x)
+
+differs : (n f : List ℕ) → bytes_eq n f ≡ false → n ≡ f → ⊥
+differs n f h e = both_ways (bytes_eq n f) h ((bytes_eq-Decides n f).1 e)
+
+-- the first entry that passes the test of a name, as the first of the names
+pub first_named : {E : Type 0} (f : List ℕ) (h : E → List ℕ) (table : List E) (r : Option ℕ) → MatchOption r (AllWithin (λ y. bytes_eq (h y) f ≡ false) table 0 (length table)) (λ i. (i < length table) × HoldsAt (λ y. bytes_eq (h y) f ≡ true) table i × AllWithin (λ y. bytes_eq (h y) f ≡ false) table 0 i) → First f (map h table) r
+first_named f h table None a = λ k l.
+    let here : k < length table = omega (arith, length-map table h) in
+    named h table k here (λ n. n ≡ f → ⊥) (λ d. differs (h (get_or table k d)) f (a k d (omega arith) here))
+first_named f h table (Some i) a = (
+  omega (arith, length-map table h, a.0),
+  named h table i a.0 (λ n. n ≡ f) (λ d. (bytes_eq-Decides (h (get_or table i d)) f).0 (a.1 d)),
+  λ k l. named h table k (omega (arith, a.0)) (λ n. n ≡ f → ⊥) (λ d. differs (h (get_or table k d)) f (a.2 k d (omega arith) l)),
+)
 
 same_not : (f n : List ℕ) → (n ≡ f → ⊥) → bytes_eq f n ≡ false
 same_not f n h = go (bytes_eq f n) refl
@@ -48,3 +62,16 @@ pub source_member : (f : List ℕ) (ins outs : List (List ℕ)) (r : Option Sour
 source_member f ins outs None h = member_append f ins outs ∙ or_from (member f ins) (member f outs) (first_none f ins h.0) (first_none f outs h.1)
 source_member f ins outs (Some (Input i)) h = member_append f ins outs ∙ or_left (member f ins) (member f outs) (first_some f ins i h)
 source_member f ins outs (Some (Gate i)) h = member_append f ins outs ∙ or_right (member f ins) (member f outs) (first_some f outs i h.1)
+
+-- an input is found, or else a gate
+pub source_found : (f : List ℕ) (ins outs : List (List ℕ)) (r : Option ℕ) (m o : Option Source) → First f ins r → m ≡ option_map Input r → MatchOption m ((s : Option ℕ) × First f outs s × (o ≡ option_map Gate s)) (λ x. o ≡ Some x) → FirstSource f ins outs o
+source_found f ins outs None m o h e a =
+    let b : (s : Option ℕ) × First f outs s × (o ≡ option_map Gate s) = rw e at a in
+    gate_found b.0 b.1 b.2
+  where
+    gate_found : (s : Option ℕ) → First f outs s → o ≡ option_map Gate s → FirstSource f ins outs o
+    gate_found None k q = subst (FirstSource f ins outs) (sym q) (h, k)
+    gate_found (Some j) k q = subst (FirstSource f ins outs) (sym q) (h, k)
+source_found f ins outs (Some i) m o h e a =
+    let b : o ≡ Some (Input i) = rw e at a in
+    subst (FirstSource f ins outs) (sym b) h

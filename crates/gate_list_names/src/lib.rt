@@ -2,8 +2,12 @@
 #![tactic(auto)]
 
 ghost use Rattle.std.specs.Prelude.{◌≡◌, ℕ, ◌-◌, ◌++◌, length, take, replicate};
-ghost use Rattle.gate_list_names.specs.Names.{at, names_in, input_names_in, gate_names_in, First};
+ghost use Rattle.std.specs.Str.{bytes_eq};
+ghost use Rattle.gate_list_names.specs.Names.{at, names_in, First};
+ghost use Rattle.gate_list_names.specs.Given.{input_names, gate_names};
 ghost use Rattle.gate_list_names.specs.Sources.{FirstSource};
+
+use circuit::Source;
 
 /// What has its name at a place of a text
 pub trait Entry {
@@ -21,37 +25,21 @@ pub trait Entry {
 }
 
 /// The name of an input
-#[derive(Clone, Copy)]
+#[derive(Clone, Copy, PartialEq, Eq, Debug, Default)]
 pub struct InputEntry {
     pub place: usize,
     pub length: usize,
 }
 
-impl InputEntry {
-    /// An entry of all 0
-    pub const BLANK: InputEntry = InputEntry {
-        place: 0,
-        length: 0,
-    };
-}
-
 /// The name and the kind of a gate
-#[derive(Clone, Copy)]
+#[derive(Clone, Copy, PartialEq, Eq, Debug, Default)]
 pub struct GateEntry {
     pub place: usize,
     pub length: usize,
     pub kind: usize,
 }
 
-impl GateEntry {
-    /// An entry of all 0
-    pub const BLANK: GateEntry = GateEntry {
-        place: 0,
-        length: 0,
-        kind: 0,
-    };
-}
-
+// The tables are slices that the caller lends, of two kinds of entries: so the trait has an impl for each.
 impl Entry for InputEntry {
     ghost start = { λ e. e.place };
 
@@ -84,50 +72,40 @@ impl Entry for GateEntry {
 pub fn part(text: &[u8], place: usize, length: usize) -> &[u8]
     ensures { result.now ≡ at text.now place length }
 {
-    if text.len() <= place {
-        return &text[0..0];
-    }
-    let rest = &text[place..];
-    if rest.len() <= length {
-        return rest;
-    }
-    &rest[0..length]
+    let rest = &text[place.min(text.len())..];
+    &rest[..length.min(rest.len())]
+}
+
+/// Whether an entry has a name
+fn is_named<E: Entry>(entry: &E, text: &[u8], name: &[u8]) -> bool
+    ensures { result ≡ bytes_eq (at text.now (E.Entry.start entry.now) (E.Entry.size entry.now)) name.now }
+{
+    part(text, entry.place(), entry.length()) == name
 }
 
 /// The first entry of a name
 pub fn find<E: Entry>(table: &[E], text: &[u8], name: &[u8]) -> Option<usize>
     ensures { First name.now (names_in E.Entry.start E.Entry.size text.now table.now) result }
 {
-    for (i, entry) in table.iter().enumerate() {
-        if part(text, entry.place(), entry.length()) == name {
-            return Some(i);
-        }
-    }
-    None
+    table.iter().position(|entry| is_named(entry, text, name))
 }
 
-/// The input or the gate that a pin is joined to
+/// A text, and the tables of the names that its inputs and gates have
 #[derive(Clone, Copy)]
-pub enum Source {
-    Input(usize),
-    Gate(usize),
+pub struct Names<'a> {
+    pub text: &'a [u8],
+    pub inputs: &'a [InputEntry],
+    pub gates: &'a [GateEntry],
 }
 
-/// The input or else the gate that has a name
-pub fn find_source(
-    text: &[u8],
-    inputs: &[InputEntry],
-    gates: &[GateEntry],
-    name: &[u8],
-) -> Option<Source>
-    ensures { FirstSource name.now (input_names_in text.now inputs.now) (gate_names_in text.now gates.now) result }
-{
-    match find(inputs, text, name) {
-        Some(i) => Some(Source::Input(i)),
-        None => match find(gates, text, name) {
-            Some(i) => Some(Source::Gate(i)),
-            None => None,
-        },
+impl<'a> Names<'a> {
+    /// The input or else the gate that has a name
+    pub fn source(self, name: &[u8]) -> Option<Source>
+        ensures { FirstSource name.now (input_names self.entry) (gate_names self.entry) result }
+    {
+        find(self.inputs, self.text, name)
+            .map(Source::Input)
+            .or_else(|| find(self.gates, self.text, name).map(Source::Gate))
     }
 }
 
@@ -135,7 +113,6 @@ pub fn find_source(
 pub fn blank_from<E: Copy>(table: &mut [E], from: usize, blank: E)
     ensures { table.new ≡ take from table.old ++ replicate (length table.old - from) blank }
 {
-    for i in from..table.len() {
-        table[i] = blank;
-    }
+    let start = from.min(table.len());
+    table[start..].fill_with(|| blank);
 }

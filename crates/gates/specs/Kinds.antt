@@ -1,5 +1,5 @@
 -- What a gate library means: a list of kinds, each a pin count and a Boolean function of its pins.
-use Rattle.std.specs.Prelude.{ℕ, ◌≤◌, Bool, cond, not, List, [], ◌∷◌, length, take, Some, None, Option, ◌==◌}
+use Rattle.std.specs.Prelude.{◌≡◌, ℕ, ◌≤◌, Bool, true, false, cond, not, List, [], ◌∷◌, length, take, Some, None, Option, ◌==◌}
 use Rattle.std.specs.Option.{option_map}
 use Rattle.std.specs.List.{slice_get, AllByRecursion}
 use Rattle.gates.specs.declared.Mark.{Mark}
@@ -37,3 +37,13 @@ paired (k ∷ ks) = k ∷ complement k ∷ paired ks
 
 abbrev pub complementing : List Kind → List Kind
 complementing ks = paired (take 2048 ks)
+
+-- a kind below, or its complement
+abbrev pub turned : Bool → Option Kind → Option Kind
+turned true kind = option_map complement kind
+turned false kind = kind
+
+-- of which kind below a kind of the complementing library is the complement or the same, whatever that library's kinds are
+abbrev pub IsPaired : ℕ → Option (ℕ × Bool) → Type 0
+IsPaired k None = (ks : List Kind) → slice_get (complementing ks) k ≡ None
+IsPaired k (Some p) = (ks : List Kind) → slice_get (complementing ks) k ≡ turned p.1 (slice_get ks p.0)

@@ -1,12 +1,13 @@
 -- The complementing library's list of kinds.
-use Rattle.std.specs.Prelude.{◌≡◌, ℕ, zero, suc, ◌*◌, ◌/◌, ◌%◌, ◌<◌, ◌≤◌, min, Bool, true, false, cond, not, List, [], ◌∷◌, length, take, Some, None, Option, ◌==◌, ◌≢◌, refl}
-use Rattle.std.proofs.Common.{ap, ◌∙◌, arith, ⊎_elim, length-take}
-use Rattle.std.proofs.lemmas.Bool.{cases_eq}
+use Rattle.std.specs.Prelude.{◌≡◌, ℕ, zero, suc, ◌*◌, ◌/◌, ◌%◌, ◌<◌, ◌≤◌, min, Bool, true, false, cond, not, List, [], ◌∷◌, length, take, Some, None, Option, ◌==◌, ◌≢◌, nat_lt, refl}
+use Rattle.std.proofs.Common.{ap, ◌∙◌, arith, length-take}
+use Rattle.std.proofs.lemmas.Bool.{ltb-true, ltb-false, eqb-true, eqb-false}
 use Rattle.std.specs.Option.{option_map}
+use Rattle.std.specs.Bool.{then_some}
 use Rattle.std.specs.List.{slice_get, AllByRecursion}
 use Rattle.std.proofs.lemmas.Option.{slice_get_past}
 use Rattle.std.proofs.ByRecursion.{All-take}
-use Rattle.gates.specs.Kinds.{Kind, Lawful, paired, complement, complementing, given_by}
+use Rattle.gates.specs.Kinds.{Kind, Lawful, paired, complement, complementing, turned, IsPaired, given_by}
 
 length-paired : (ks : List Kind) → length (paired ks) ≡ 2 * length ks
 length-paired [] = refl
@@ -50,10 +51,15 @@ odd ks k h e =
     let low : k / 2 < 2048 = omega arith in
     ap (slice_get (complementing ks)) whole ∙ nth_odd (take 2048 ks) (k / 2) ∙ ap (option_map complement) (nth_take 2048 ks (k / 2) low)
 
+unmapped : {B : Type 0} (o : Option B) → o ≡ option_map (λ v. v) o
+unmapped None = refl
+unmapped (Some v) = refl
+
 -- what a complement gives, by what the kind gives
-pub given_complement : {A B : Type 0} (give : (List Bool → Bool) → List A → B) (turn : B → B) (o : Option Kind) (xs : List A) → ((f : List Bool → Bool) → give (λ bs. not (f bs)) xs ≡ turn (give f xs)) → given_by give (option_map complement o) xs ≡ option_map turn (given_by give o xs)
-given_complement give turn None xs h = refl
-given_complement give turn (Some kind) xs h = by (length xs == kind.pins)
+pub given_turned : {A B : Type 0} (give : (List Bool → Bool) → List A → B) (turn : B → B) (t : Bool) (o : Option Kind) (xs : List A) → ((f : List Bool → Bool) → give (λ bs. not (f bs)) xs ≡ turn (give f xs)) → given_by give (turned t o) xs ≡ option_map (λ v. cond t (turn v) v) (given_by give o xs)
+given_turned give turn false o xs h = unmapped (given_by give o xs)
+given_turned give turn true None xs h = refl
+given_turned give turn true (Some kind) xs h = by (length xs == kind.pins)
   where
     by : (t : Bool) → cond t (Some (give (λ bs. not (kind.output bs)) xs)) None ≡ option_map turn (cond t (Some (give kind.output xs)) None)
     by true = ap Some (h kind.output)
@@ -72,24 +78,24 @@ lawful_complementing ks l = record {
   narrow = all_paired (take 2048 ks) (All-take Narrow 2048 ks l.narrow);
 }
 
-pub pins_half : (ks : List Kind) (k : ℕ) → k < 4096 → option_map (λ (d : Kind). d.pins) (slice_get (complementing ks) k) ≡ option_map (λ (d : Kind). d.pins) (slice_get ks (k / 2))
-pins_half ks k h =
-    ⊎_elim
-    (λ e. ap (option_map (λ (d : Kind). d.pins)) (even ks k h e))
-    (λ e. ap (option_map (λ (d : Kind). d.pins)) (odd ks k h e) ∙ same (slice_get ks (k / 2)))
-    (cases_eq (k % 2) 0)
+pub pins_turned : (t : Bool) (o : Option Kind) → option_map (λ (d : Kind). d.pins) (turned t o) ≡ option_map (λ (d : Kind). d.pins) o
+pins_turned false o = refl
+pins_turned true None = refl
+pins_turned true (Some d) = refl
+
+-- the kind below a kind, and whether it is complemented
+pub paired_kind : (k : ℕ) → IsPaired k (then_some (nat_lt k 4096) (k / 2, k % 2 == 1))
+paired_kind k = by (nat_lt k 4096) refl (k % 2 == 1) refl
   where
-    same : (o : Option Kind) → option_map (λ (d : Kind). d.pins) (option_map complement o) ≡ option_map (λ (d : Kind). d.pins) o
-    same None = refl
-    same (Some d) = refl
+    by : (low : Bool) → nat_lt k 4096 ≡ low → (complemented : Bool) → (k % 2 == 1) ≡ complemented → IsPaired k (then_some low (k / 2, complemented))
+    by false h complemented e = λ ks. past ks k (ltb-false k 4096 h)
+    by true h true e = λ ks. odd ks k (ltb-true k 4096 h) (let one : k % 2 ≡ 1 = eqb-true (k % 2) 1 e in λ z. omega arith)
+    by true h false e = λ ks. even ks k (ltb-true k 4096 h) (let other : k % 2 ≢ 1 = eqb-false (k % 2) 1 e in omega arith)
 
--- what the complementing library gives, by what the library below gives at half the kind
-module _ {A B : Type 0} (give : (List Bool → Bool) → List A → B) (turn : B → B) (xs : List A) (turns : (f : List Bool → Bool) → give (λ bs. not (f bs)) xs ≡ turn (give f xs)) (ks : List Kind) (k : ℕ) (low : k < 4096) where
-  pub given_even : k % 2 ≡ 0 → given_by give (slice_get (complementing ks) k) xs ≡ given_by give (slice_get ks (k / 2)) xs
-  given_even e = ap (λ o. given_by give o xs) (even ks k low e)
+-- what the complementing library gives, by what the library below gives
+module _ {A B : Type 0} (give : (List Bool → Bool) → List A → B) (turn : B → B) (xs : List A) (turns : (f : List Bool → Bool) → give (λ bs. not (f bs)) xs ≡ turn (give f xs)) (ks : List Kind) (k : ℕ) where
+  pub paired_none : IsPaired k None → given_by give (slice_get (complementing ks) k) xs ≡ None
+  paired_none h = ap (λ o. given_by give o xs) (h ks)
 
-  pub given_odd : (k % 2 ≢ 0) → given_by give (slice_get (complementing ks) k) xs ≡ option_map turn (given_by give (slice_get ks (k / 2)) xs)
-  given_odd e = ap (λ o. given_by give o xs) (odd ks k low e) ∙ given_complement give turn (slice_get ks (k / 2)) xs turns
-
-  pub given_none : given_by give (slice_get ks (k / 2)) xs ≡ None → given_by give (slice_get (complementing ks) k) xs ≡ None
-  given_none n = ⊎_elim (λ e. given_even e ∙ n) (λ e. given_odd e ∙ ap (option_map turn) n) (cases_eq (k % 2) 0)
+  pub paired_given : (j : ℕ) (t : Bool) → IsPaired k (Some (j, t)) → given_by give (slice_get (complementing ks) k) xs ≡ option_map (λ v. cond t (turn v) v) (given_by give (slice_get ks j) xs)
+  paired_given j t h = ap (λ o. given_by give o xs) (h ks) ∙ given_turned give turn t (slice_get ks j) xs turns

@@ -1,10 +1,13 @@
 //! Marks, and gate libraries: what a library means and what it answers.
 #![tactic(auto)]
 
-ghost use Rattle.std.specs.Prelude.{◌≡◌, Bool, List, length};
+ghost use Rattle.std.specs.Prelude.{◌≡◌, Bool, List, [], ◌∷◌, Some, length};
 ghost use Rattle.gates.specs.Marks.{settled, covers, lub, complemented, mark_code, mark_symbol, ExtensionExact};
-ghost use Rattle.gates.specs.Kinds.{Kind, Lawful, complementing, pins_of, value_of, extension_of};
+ghost use Rattle.gates.specs.Kinds.{Kind, Lawful, complementing, IsPaired, pins_of, value_of, extension_of};
 ghost use Rattle.gates.specs.Paired.{lawful_complementing};
+
+use std::fmt;
+use std::fmt::Write;
 
 /// What is known of a signal: its value, or nothing.
 #[derive(Clone, Copy, PartialEq, Eq, Debug)]
@@ -14,14 +17,34 @@ pub enum Mark {
     Unknown,
 }
 
-impl Mark {
-    /// The settled mark of a value.
-    pub fn of_bit(bit: bool) -> Mark
-        ensures { result ≡ settled bit }
-    {
+impl From<bool> for Mark {
+    // the settled mark of a value
+    ghost from_gives = { λ bit mark. mark ≡ settled bit };
+
+    fn from(bit: bool) -> Mark {
         if bit { Mark::One } else { Mark::Zero }
     }
+}
 
+impl From<Mark> for u8 {
+    // 0, 1, or 2 for unknown
+    ghost from_gives = { λ mark code. code ≡ mark_code mark };
+
+    fn from(mark: Mark) -> u8 {
+        mark as u8
+    }
+}
+
+impl fmt::Display for Mark {
+    // its character on the sheet
+    ghost output = { λ mark. Some (mark_symbol mark ∷ []) };
+
+    fn fmt<W: fmt::Write>(&self, f: &mut fmt::Formatter<W>) -> fmt::Result {
+        f.write_char(char::from(self.symbol()))
+    }
+}
+
+impl Mark {
     /// Whether a signal with this mark may have the value `bit`.
     pub fn covers(self, bit: bool) -> bool
         ensures { result ≡ covers self bit }
@@ -37,11 +60,7 @@ impl Mark {
     pub fn lub(self, other: Mark) -> Mark
         ensures { result ≡ lub self other }
     {
-        match (self, other) {
-            (Mark::Zero, Mark::Zero) => Mark::Zero,
-            (Mark::One, Mark::One) => Mark::One,
-            _ => Mark::Unknown,
-        }
+        if self == other { self } else { Mark::Unknown }
     }
 
     pub fn complement(self) -> Mark
@@ -51,17 +70,6 @@ impl Mark {
             Mark::Zero => Mark::One,
             Mark::One => Mark::Zero,
             Mark::Unknown => Mark::Unknown,
-        }
-    }
-
-    /// 0, 1, or 2 for unknown.
-    pub fn code(self) -> u8
-        ensures { result ≡ mark_code self }
-    {
-        match self {
-            Mark::Zero => 0,
-            Mark::One => 1,
-            Mark::Unknown => 2,
         }
     }
 
@@ -89,6 +97,7 @@ pub trait GateLibrary {
     fn pin_count(&self, kind: usize) -> Option<usize>
         ensures { result ≡ pins_of (kinds self.now) kind };
 
+    // Bits and marks are asked apart, and not by one question over a type parameter: a library may know its functions of bits alone.
     /// The function's value, or nothing if the kind is absent or has another pin count.
     fn value(&self, kind: usize, bits: &[bool]) -> Option<bool>
         ensures { result ≡ value_of (kinds self.now) kind bits.now };
@@ -116,36 +125,35 @@ impl<L: GateLibrary> GateLibrary for Complement<L> {
     }
 
     fn pin_count(&self, kind: usize) -> Option<usize> {
-        if kind >= 4096 {
-            return None;
-        }
-        self.below.pin_count(kind / 2)
+        let (below, _) = paired(kind)?;
+        self.below.pin_count(below)
     }
 
     fn value(&self, kind: usize, bits: &[bool]) -> Option<bool> {
-        if kind >= 4096 {
-            return None;
-        }
-        let value = self.below.value(kind / 2, bits)?;
-        Some(if kind % 2 == 0 { value } else { !value })
+        let (below, complemented) = paired(kind)?;
+        let value = self.below.value(below, bits)?;
+        Some(if complemented { !value } else { value })
     }
 
     fn extension(&self, kind: usize, marks: &[Mark]) -> Option<Mark> {
-        if kind >= 4096 {
-            return None;
-        }
-        let mark = self.below.extension(kind / 2, marks)?;
-        Some(if kind % 2 == 0 {
-            mark
-        } else {
+        let (below, complemented) = paired(kind)?;
+        let mark = self.below.extension(below, marks)?;
+        Some(if complemented {
             mark.complement()
+        } else {
+            mark
         })
     }
 }
 
-/// Theorem: the exact extension covers just the values that the function takes on covered bits.
-pub fn extension_exact() -> u8
-    ensures { ExtensionExact }
+/// The kind below, and whether it is complemented; nothing from kind 4,096 on.
+fn paired(kind: usize) -> Option<(usize, bool)>
+    ensures { IsPaired kind result }
 {
-    0
+    (kind < 4096).then_some((kind / 2, kind % 2 == 1))
 }
+
+/// Theorem: the exact extension covers just the values that the function takes on covered bits.
+pub fn extension_exact()
+    ensures { ExtensionExact }
+{}

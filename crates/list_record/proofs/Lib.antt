@@ -4,6 +4,5 @@ pub mod Pins
 pub mod Named
 pub mod Lines
 pub mod Turns
-pub mod Calls
 pub mod Checked
 pub mod Joined

@@ -11,6 +11,7 @@ use Rattle.circuit.specs.declared.Signal.TheVariants as signal
 use Rattle.record.specs.Boards.{Board}
 use Rattle.record.specs.Calls.{unless, bit_of, pin_count, add_input_stop, input_added, add_gate_stop, gate_added, set_input_stop, input_set, set_signal_stop, signal_set}
 use Rattle.gate_list_format.specs.Lists.{GateList, Input, Gate, LawfulInput, LawfulGate, kind_of, wires}
+use Rattle.gate_list_format.proofs.Forms.{wires_push}
 use Rattle.list_record.specs.ListBoards.{list_kinds, applied_values, input_starts, gate_starts, gate_row, gate_rows}
 use Rattle.list_record.specs.Replay.{entered}
 use Rattle.list_record.proofs.KindPins.{kind_pins}
@@ -74,10 +75,6 @@ rows_push first [] g = ap (λ n. gate_row n g ∷ []) (let e : first ≡ first +
 rows_push first (x ∷ gs) g =
     let e : first + length x.pins + wires gs ≡ first + (length x.pins + wires gs) = omega arith in
     ap (λ t. gate_row first x ∷ t) (rows_push (first + length x.pins) gs g ∙ ap (λ n. gate_rows (first + length x.pins) gs ++ (gate_row n g ∷ [])) e)
-
-pub wires_push : (gs : List Gate) (g : Gate) → wires (gs ++ (g ∷ [])) ≡ wires gs + length g.pins
-wires_push [] g = omega arith
-wires_push (x ∷ gs) g = omega (arith, wires_push gs g)
 
 module _ (b : GateList) (is : List Input) (gs : List Gate) (g : Gate) (law : LawfulGate g) (few : length gs < 96) (room : wires gs + length g.pins ≤ 384) where
   abbrev old : Board

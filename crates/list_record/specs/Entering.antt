@@ -2,8 +2,7 @@
 use Rattle.std.specs.Prelude.{Ok, Err, Result}
 use Rattle.gates.specs.declared.Complement.{Complement}
 use Rattle.plain_gates.specs.declared.PlainGates.{PlainGates}
-use Rattle.record.specs.declared.record.Record.{Record}
-use Rattle.record.specs.Boards.{Board}
+use Rattle.record.specs.Boards.{Board, Held}
 use Rattle.record.specs.Views.{board_of}
 use Rattle.gate_list_format.specs.Slots.{Outcome, accepted, refused}
 use Rattle.gate_list_format.specs.Lists.{GateList}
@@ -12,8 +11,8 @@ use Rattle.gate_list.specs.Refusals.{refusal_number, refusal_line}
 use Rattle.list_record.specs.ListBoards.{list_kinds}
 
 -- the board of a record over the complementing library on plain gates
-abbrev pub list_board : Record (Complement PlainGates) → Board
-list_board r = board_of (λ _. list_kinds) r
+abbrev pub list_board : Held (Complement PlainGates) → Board
+list_board held = board_of (λ _. list_kinds) held
 
 -- an answer in code
 abbrev pub told : Result (Unit {0}) Refusal → Outcome (Unit {0})

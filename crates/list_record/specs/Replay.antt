@@ -1,19 +1,29 @@
 -- How far a list is entered, and what each part of the replay does.
-use Rattle.std.specs.Prelude.{◌≡◌, ℕ, ◌-◌, false, List, [], ◌++◌, length, take, replicate, None}
+use Rattle.std.specs.Prelude.{◌≡◌, ℕ, ◌-◌, ◌<◌, false, List, [], ◌++◌, length, take, drop, replicate, None}
 use Rattle.circuit.specs.declared.Signal.{Signal}
 use Rattle.circuit.specs.declared.Signal.TheVariants as signal
 use Rattle.record.specs.Boards.{Board}
 use Rattle.record.specs.Calls.{add_input_stop, input_added, add_gate_stop, gate_added, join_stop, joined, set_input_stop, input_set, set_signal_stop, signal_set}
-use Rattle.gate_list_format.specs.Lists.{GateList, Input, Gate, Pin, Lawful, LawfulInput, LawfulGate, wires, write_input, write_gate, written}
-use Rattle.gate_list_names.specs.declared.Source.{Source}
-use Rattle.gate_list_names.specs.declared.Source.TheVariants as named
+use Rattle.gate_list_format.specs.Lists.{GateList, Input, Gate, Pin, Lawful, LawfulGate, wires, write_gate, written}
 use Rattle.gate_list.specs.Laws.{gate_number}
+use Rattle.gate_list.specs.Tables.{input_entries, gate_entries}
+use Rattle.gate_list_names.specs.declared.Names.{Names}
 use Rattle.list_record.specs.ListBoards.{list_kinds, applied_values, input_starts, gate_starts, pin_starts, pins_in, gate_rows, pin_sources}
 
 -- the text writes a lawful list
 pub record Listed (b : GateList) (text : List ℕ) : Type 0 where
   pub lawful : Lawful b
   pub written : text ≡ written b
+
+-- the text writes a lawful list, and the tables hold its names
+pub record Lists (names : Names) (b : GateList) : Type 0 where
+  pub listed : Listed b names.text.now
+  pub inputs : names.inputs.now ≡ input_entries b
+  pub gates : names.gates.now ≡ gate_entries b
+
+-- at a place of the text stands the line of a gate
+abbrev pub GateStands : GateList → List ℕ → ℕ → ℕ → Type 0
+GateStands b text gate place = (gate < length b.gates) × (rest : List ℕ) × LawfulGate (gate_number b gate) × (drop place text ≡ write_gate (gate_number b gate) rest)
 
 -- these inputs and gates are entered, and these pins joined; so many more pins are not
 abbrev pub entered : GateList → List Input → List Gate → List Pin → ℕ → Board
@@ -41,18 +51,6 @@ pins_joined b ps = entered b b.inputs b.gates ps (wires b.gates - length ps)
 -- the pins before a gate's pin, by gate and then by pin
 abbrev pub pins_before : GateList → ℕ → ℕ → List Pin
 pins_before b gate pin = pins_in (take gate b.gates) ++ take pin (gate_number b gate).pins
-
--- an input line's values
-abbrev pub InputBits : List ℕ → ℕ × ℕ → Type 0
-InputBits text r = (i : Input) (rest : List ℕ) → LawfulInput i → text ≡ write_input i rest → (r.0 ≡ i.applied) × (r.1 ≡ i.start)
-
--- a gate line's start bit and pin count
-abbrev pub GateFields : List ℕ → ℕ × ℕ → Type 0
-GateFields text r = (g : Gate) (rest : List ℕ) → LawfulGate g → text ≡ write_gate g rest → (r.0 ≡ g.start) × (r.1 ≡ length g.pins)
-
-abbrev pub signal_of : Source → Signal
-signal_of (named.Input i) = signal.Input i
-signal_of (named.Gate g) = signal.Gate g
 
 -- calls in a row that nothing stops
 abbrev pub InputEntered : Board → ℕ → ℕ → ℕ → Board → Type 0

@@ -8,18 +8,21 @@ ghost use Rattle.list_record.specs.Entering.{list_board, told, verdict};
 ghost use Rattle.list_record.specs.ListBoards.{PinsJoined, board_after};
 
 use gate_list::{Refusal, check_list};
-use gate_list_names::{GateEntry, InputEntry};
+use gate_list_names::{GateEntry, InputEntry, Names};
 use gates::Complement;
 use plain_gates::PlainGates;
 use record::record::Record;
 
 mod replay;
 
+/// A record over the complementing library on plain gates.
+pub type ListRecord = Record<Complement<PlainGates>>;
+
 /// Reads a gate list onto the record, and its names and kinds into the tables.
 ///
 /// After a refused list the record is as newly opened and the tables are blank; at number 14 they stay as they were.
 pub fn read_list(
-    record: &mut Record<Complement<PlainGates>>,
+    record: &mut ListRecord,
     text: &[u8],
     inputs: &mut [InputEntry],
     gates: &mut [GateEntry],
@@ -31,13 +34,16 @@ pub fn read_list(
 {
     record.clear();
     let (n, r) = check_list(text, inputs, gates)?;
-    replay::enter_list(record, text, &inputs[..n], &gates[..r]);
+    let names = Names {
+        text,
+        inputs: &inputs[..n],
+        gates: &gates[..r],
+    };
+    replay::enter_list(record, names);
     Ok(())
 }
 
 /// Theorem: every pin of an accepted list is joined, so that its record can run.
-pub fn pins_joined() -> u8
+pub fn pins_joined()
     ensures { PinsJoined }
-{
-    0
-}
+{}

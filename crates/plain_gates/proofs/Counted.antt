@@ -1,16 +1,19 @@
--- Each rule goes by the number of ones, and counting takes one entry at a time.
-use Rattle.std.proofs.Common.{◌≡◌, ℕ, suc, ◌+◌, ◌<◌, ◌≤◌, Bool, true, false, eqb, ltb, List, [], ◌∷◌, length, get_or, drop, sym, refl, ap, ◌∙◌, arith}
+-- Each rule goes by the number of ones, and how they are counted.
+use Rattle.std.proofs.Common.{◌≡◌, suc, ◌+◌, ◌≤◌, Bool, true, false, cond, eqb, ltb, List, [], ◌∷◌, length, count_by, sym, refl, ◌∙◌, arith}
 use lib.Dec.{eqb-suc-suc}
-use Rattle.std.proofs.lemmas.List.{at_drop_more}
+use Rattle.std.proofs.lemmas.List.Recursion.{is_count_by}
 use Rattle.std.proofs.lemmas.Bool.{ne_eqb, lt-ltb}
 use Rattle.plain_gates.specs.declared.rules.Rule.{Rule}
 use Rattle.plain_gates.specs.declared.rules.Rule.TheVariants.{And, Or, Xor, Majority}
 use Rattle.plain_gates.specs.Plain.{ones_in, and_of, or_of}
 use Rattle.plain_gates.specs.Rules.{function_of, output_at}
 
--- a count from the entry x on
-pub counted_from : {X : Type 0} (count : List X → ℕ) (xs : List X) (i : ℕ) (d x : X) → i < length xs → get_or xs i d ≡ x → count (drop i xs) ≡ count (x ∷ drop (i + 1) xs)
-counted_from count xs i d x h is = at_drop_more count xs i d h ∙ ap (λ y. count (y ∷ drop (i + 1) xs)) is
+pub ones_counted : (bits : List Bool) → ones_in bits ≡ count_by (λ b. b) bits
+ones_counted = is_count_by ones_in (λ b. b) refl step
+  where
+    step : (b : Bool) (bits : List Bool) → ones_in (b ∷ bits) ≡ cond b (1 + ones_in bits) (ones_in bits)
+    step true bits = omega arith
+    step false bits = refl
 
 ones_few : (bits : List Bool) → ones_in bits ≤ length bits
 ones_few [] = omega arith

@@ -1,5 +1,6 @@
 -- The exact extension of a function that goes by the number of ones.
-use Rattle.std.proofs.Common.{◌≡◌, ℕ, zero, suc, ◌+◌, Bool, List, [], ◌∷◌, length, sym, refl, ap, ◌∙◌, arith}
+use Rattle.std.proofs.Common.{◌≡◌, ℕ, zero, suc, ◌+◌, Bool, List, [], ◌∷◌, length, sym, refl, ap, ◌∙◌, add-zero, zero-add, arith}
+use Rattle.std.specs.List.{fold, range_with_len}
 use Rattle.gates.specs.declared.Mark.{Mark}
 use Rattle.gates.specs.declared.Mark.TheVariants.{Zero, One, Unknown}
 use Rattle.gates.specs.Marks.{settled, lub, extended}
@@ -13,6 +14,22 @@ use Rattle.plain_gates.proofs.Counted.{counted}
 abbrev pub spread : (ℕ → Bool) → ℕ → ℕ → Mark
 spread out low zero = settled (out low)
 spread out low (suc n) = lub (spread out low n) (settled (out (low + n + 1)))
+
+-- the same, as a fold that has gone over k of the numbers
+spread_from : (out : ℕ → Bool) (low k n : ℕ) → fold (λ m ones. lub m (settled (out ones))) (spread out low k) (range_with_len (low + k + 1) n) ≡ spread out low (k + n)
+spread_from out low k zero = ap (spread out low) (sym (add-zero k))
+spread_from out low k (suc n) =
+    let behind : low + k + 1 + 1 ≡ low + suc k + 1 = omega arith in
+    let all : suc k + n ≡ k + suc n = omega arith in
+    ap (λ a. fold (λ m ones. lub m (settled (out ones))) (spread out low (suc k)) (range_with_len a n)) behind
+    ∙ spread_from out low (suc k) n
+    ∙ ap (spread out low) all
+
+pub spread_folded : (out : ℕ → Bool) (low n : ℕ) → fold (λ m ones. lub m (settled (out ones))) (settled (out low)) (range_with_len (low + 1) n) ≡ spread out low n
+spread_folded out low n =
+    let start : low + 1 ≡ low + 0 + 1 = omega arith in
+    ap (λ a. fold (λ m ones. lub m (settled (out ones))) (settled (out low)) (range_with_len a n)) start
+    ∙ spread_from out low 0 n ∙ ap (spread out low) (zero-add n)
 
 lub_twice : (a x y : Mark) → lub (lub a x) (lub x y) ≡ lub (lub a x) y
 lub_twice Unknown x y = refl

@@ -5,7 +5,7 @@ ghost use Rattle.plain_gates.specs.Plain.{plain, PlainNumbered};
 ghost use Rattle.std.proofs.Common.{rules};
 
 use gates::{GateLibrary, Mark};
-use rules::numbered;
+use rules::{numbered, rule_for};
 
 mod ones;
 mod rules;
@@ -31,27 +31,15 @@ impl GateLibrary for PlainGates {
     }
 
     fn value(&self, kind: usize, bits: &[bool]) -> Option<bool> {
-        let (rule, pins) = numbered(kind)?;
-        if bits.len() == pins {
-            Some(rule.value(bits))
-        } else {
-            None
-        }
+        Some(rule_for(kind, bits)?.value(bits))
     }
 
     fn extension(&self, kind: usize, marks: &[Mark]) -> Option<Mark> {
-        let (rule, pins) = numbered(kind)?;
-        if marks.len() == pins {
-            Some(rule.extension(marks))
-        } else {
-            None
-        }
+        Some(rule_for(kind, marks)?.extension(marks))
     }
 }
 
 /// Theorem: which kind each number names.
-pub fn plain_numbered() -> u8
+pub fn plain_numbered()
     ensures { PlainNumbered }
-{
-    0
-}
+{}

@@ -3,13 +3,14 @@ ghost use Rattle.std.specs.Prelude.{◌≡◌};
 ghost use Rattle.std.specs.Option.{option_map};
 ghost use Rattle.std.specs.List.{slice_get};
 ghost use Rattle.gates.specs.Marks.{extended};
+ghost use Rattle.gates.specs.Kinds.{given_by};
 ghost use Rattle.plain_gates.specs.Plain.{plain};
 ghost use Rattle.plain_gates.specs.Rules.{function_of, ruled, output_at};
 
 use crate::ones::{mark_counts, ones};
 use gates::Mark;
 
-#[derive(Clone, Copy)]
+#[derive(Clone, Copy, PartialEq, Eq, Debug)]
 pub(crate) enum Rule {
     And,
     Or,
@@ -28,6 +29,14 @@ pub(crate) fn numbered(kind: usize) -> Option<(Rule, usize)>
         24 => Some((Rule::Majority, 3)),
         _ => None,
     }
+}
+
+/// The rule of a kind, if it has as many pins as there are entries.
+pub(crate) fn rule_for<A>(kind: usize, entries: &[A]) -> Option<Rule>
+    ensures { option_map function_of result ≡ given_by (λ f _. f) (slice_get plain kind) entries.now }
+{
+    let (rule, pins) = numbered(kind)?;
+    (entries.len() == pins).then_some(rule)
 }
 
 impl Rule {
@@ -55,10 +64,10 @@ impl Rule {
     {
         let (sure, unknown) = mark_counts(marks);
         let pins = marks.len();
-        let mut mark = Mark::of_bit(self.output(sure, pins));
-        for more in 0..unknown {
-            mark = mark.lub(Mark::of_bit(self.output(sure + more + 1, pins)));
-        }
-        mark
+        let least = Mark::from(self.output(sure, pins));
+        (sure + 1..sure + unknown + 1).fold(
+            least,
+            |mark, ones| mark.lub(Mark::from(self.output(ones, pins))),
+        )
     }
 }

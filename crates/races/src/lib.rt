@@ -7,43 +7,31 @@ ghost use Rattle.races.specs.Exact.{MarksExact, OutcomeSome};
 ghost use Rattle.races.specs.Fires.{FireSteps, StepsFire};
 
 /// Theorem: first marks tell the values along the races, second marks those in the outcome.
-pub fn marks_exact() -> u8
+pub fn marks_exact()
     ensures { MarksExact }
-{
-    0
-}
+{}
 
 /// Theorem: the races come to something.
-pub fn outcome_some() -> u8
+pub fn outcome_some()
     ensures { OutcomeSome }
-{
-    0
-}
+{}
 
 /// Theorem: firing is a race step.
-pub fn fire_steps() -> u8
+pub fn fire_steps()
     ensures { FireSteps }
-{
-    0
-}
+{}
 
 /// Theorem: every race step from a state with unstable signals is a firing.
-pub fn steps_fire() -> u8
+pub fn steps_fire()
     ensures { StepsFire }
-{
-    0
-}
+{}
 
 /// Theorem: where no second mark is unknown, the races come to the state of the second marks, which is stable.
-pub fn adopt_lands() -> u8
+pub fn adopt_lands()
     ensures { AdoptLands }
-{
-    0
-}
+{}
 
 /// Two small circuits, and what their races come to.
-pub fn examples() -> u8
+pub fn examples()
     ensures { Examples }
-{
-    0
-}
+{}

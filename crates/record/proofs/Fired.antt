@@ -1,18 +1,17 @@
 -- Which lists of signals can be fired.
-use Rattle.std.proofs.Common.{◌≡◌, ℕ, ◌+◌, ◌<◌, Bool, true, false, cond, not, ◌||◌, eqb, List, [], ◌∷◌, ◌++◌, length, get_or, take, drop, is_some, Some, None, Option, unwrap_or, sym, refl, ap, ◌∙◌, subst, inl, inr, ⊎_elim, true≢false, arith}
+use Rattle.std.proofs.Common.{◌≡◌, ℕ, ◌+◌, ◌<◌, Bool, true, false, not, ◌||◌, eqb, List, [], ◌∷◌, ◌++◌, length, get_or, take, drop, Some, None, Option, sym, refl, ap, ◌∙◌, subst, ap₂, inl, inr, ⊎_elim, arith}
 use mathlib.Core.Bool.{beq, false≢true}
-use Rattle.std.specs.List.{AllByRecursion}
+use Rattle.std.specs.List.{AllByRecursion, list_any}
 use Rattle.std.proofs.ByRecursion.{All-weaker}
 use Rattle.std.proofs.lemmas.List.{at_drop_more, take_more}
-use Rattle.std.proofs.lemmas.Bool.{lt-ltb, ltb-true, eqb-true, eq-eqb}
-use Rattle.gates.specs.declared.Mark.{Mark}
+use Rattle.std.specs.Cmp.{booleans_Decides}
+use Rattle.std.proofs.lemmas.Bool.{not-true, not_from_false, or_parts, false_from_ne_true, lt-ltb, ltb-true, eqb-true, eq-eqb}
 use Rattle.gates.specs.Told.{Stop, answer, refused, first_stop, told_by, left_by}
 use Rattle.circuit.specs.declared.Signal.{Signal}
 use Rattle.circuit.specs.declared.Signal.TheVariants as signal
 use Rattle.circuit.specs.contracts.SignalPartialEq.TheImpl.{ghosts}
 use Rattle.circuit.specs.Circuits.{Circuit, Has, size, no_gate}
 use Rattle.circuit.specs.Changes.{has_signal}
-use Rattle.circuit.specs.Passes.{open_count}
 use Rattle.circuit.specs.Wiring.{Numbered, Joined, first_unjoined}
 use Rattle.circuit.proofs.Wired.{fits_at}
 use Rattle.gates.specs.Kinds.{Kind}
@@ -27,28 +26,28 @@ use Rattle.record.specs.Moves.{same_signal, listed, entry_stop, entry_stops, fir
 -- what an answer tells of the check behind it
 pub told_none : {A : Type 0} (s : Option Stop) (a x : A) → answer x ≡ told_by s a → s ≡ None
 told_none None a x e = refl
-told_none (Some s) a x e = let z : ◌≡◌ {A = ℕ} 0 1 = cc in absurd (omega arith)
+told_none (Some s) a x e = absurd (cc)
 
 pub told_some : {A : Type 0} (s : Option Stop) (a : A) (t : Stop) → refused t ≡ told_by s a → s ≡ Some t
-told_some None a t e = let z : ◌≡◌ {A = ℕ} 0 1 = cc in absurd (omega arith)
+told_some None a t e = absurd (cc)
 told_some (Some s) a t e = let z : s ≡ t = cc in ap Some z
 
 -- checks in a row
 pub first_passed : (s : Option Stop) (rest : List (Option Stop)) → s ≡ None → first_stop (s ∷ rest) ≡ first_stop rest
 first_passed None rest e = refl
-first_passed (Some s) rest e = let z : ◌≡◌ {A = ℕ} 0 1 = cc in absurd (omega arith)
+first_passed (Some s) rest e = absurd (cc)
 
 pub first_stopped : (s : Option Stop) (rest : List (Option Stop)) (t : Stop) → s ≡ Some t → first_stop (s ∷ rest) ≡ Some t
-first_stopped None rest t e = let z : ◌≡◌ {A = ℕ} 0 1 = cc in absurd (omega arith)
+first_stopped None rest t e = absurd (cc)
 first_stopped (Some s) rest t e = e
 
 pub none_first : (s : Option Stop) (rest : List (Option Stop)) → first_stop (s ∷ rest) ≡ None → (s ≡ None) × (first_stop rest ≡ None)
 none_first None rest e = (refl, e)
-none_first (Some s) rest e = let z : ◌≡◌ {A = ℕ} 0 1 = cc in absurd (omega arith)
+none_first (Some s) rest e = absurd (cc)
 
 pub unless_none : (t : Bool) (n : ℕ) → unless t n ≡ None → t ≡ true
 unless_none true n e = refl
-unless_none false n e = let z : ◌≡◌ {A = ℕ} 0 1 = cc in absurd (omega arith)
+unless_none false n e = absurd (cc)
 
 pub unless_true : (t : Bool) (n : ℕ) → t ≡ true → unless t n ≡ None
 unless_true true n e = refl
@@ -71,40 +70,17 @@ same_itself (signal.Input i) = eq-eqb i i refl
 same_itself (signal.Gate i) = eq-eqb i i refl
 same_itself (signal.Wire i) = eq-eqb i i refl
 
-not_true : (b : Bool) → (b ≡ true → ⊥) → b ≡ false
-not_true true h = absurd (h refl)
-not_true false h = refl
-
-is_not : (b : Bool) → not b ≡ true → b ≡ false
-is_not true e = absurd (false≢true e)
-is_not false e = refl
-
-or_none : (a b : Bool) → (a || b) ≡ false → (a ≡ false) × (b ≡ false)
-or_none true b e = absurd (true≢false e)
-or_none false b e = (refl, e)
-
--- one entry more is the signal, or is not
-pub listed_here : (xs : List Signal) (i : ℕ) (x y : Signal) → i < length xs → get_or xs i (signal.Input 0) ≡ y → y ≡ x → listed (drop i xs) x ≡ true
-listed_here xs i x y h e q =
-    at_drop_more (λ ys. listed ys x) xs i (signal.Input 0) h
-    ∙ ap (λ t. t || listed (drop (i + 1) xs) x) (subst (λ z. same_signal z x ≡ true) (sym (e ∙ q)) (same_itself x))
-
-pub listed_later : (xs : List Signal) (i : ℕ) (x y : Signal) → i < length xs → get_or xs i (signal.Input 0) ≡ y → (y ≡ x → ⊥) → listed (drop (i + 1) xs) x ≡ listed (drop i xs) x
-listed_later xs i x y h e q =
-    sym (at_drop_more (λ ys. listed ys x) xs i (signal.Input 0) h
-    ∙ ap (λ t. t || listed (drop (i + 1) xs) x) (not_true (same_signal (get_or xs i (signal.Input 0)) x) (λ is. q (sym e ∙ same_is _ x is))))
-
 unlisted_push : (ys : List Signal) (x y : Signal) → listed (ys ++ x ∷ []) y ≡ false → (listed ys y ≡ false) × (same_signal x y ≡ false)
-unlisted_push [] x y e = (refl, (or_none (same_signal x y) false e).0)
+unlisted_push [] x y e = (refl, (or_parts (same_signal x y) false e).0)
 unlisted_push (z ∷ ys) x y e =
-    let a = or_none (same_signal z y) (listed (ys ++ x ∷ []) y) e in
+    let a = or_parts (same_signal z y) (listed (ys ++ x ∷ []) y) e in
     let r = unlisted_push ys x y a.1 in
     (ap (λ t. t || listed ys y) a.0 ∙ r.0, r.1)
 
 push_unlisted : (ys : List Signal) (x y : Signal) → listed ys y ≡ false → same_signal x y ≡ false → listed (ys ++ x ∷ []) y ≡ false
 push_unlisted [] x y e f = ap (λ t. t || false) f
 push_unlisted (z ∷ ys) x y e f =
-    let a = or_none (same_signal z y) (listed ys y) e in
+    let a = or_parts (same_signal z y) (listed ys y) e in
     ap (λ t. t || listed (ys ++ x ∷ []) y) a.0 ∙ push_unlisted ys x y a.1 f
 
 -- there, and unstable
@@ -119,16 +95,10 @@ is_has c (signal.Gate g) h = lt-ltb g (length c.gates) h
 is_has c (signal.Wire w) h = lt-ltb w (length c.sources) h
 
 unlike_is : (a b : Bool) → not (beq a b) ≡ true → a ≡ b → ⊥
-unlike_is true true e q = false≢true e
-unlike_is true false e q = true≢false q
-unlike_is false true e q = false≢true q
-unlike_is false false e q = false≢true e
+unlike_is a b e q = false≢true (sym (not-true (beq a b) e) ∙ (booleans_Decides a b).1 q)
 
 is_unlike : (a b : Bool) → (a ≡ b → ⊥) → not (beq a b) ≡ true
-is_unlike true true h = absurd (h refl)
-is_unlike true false h = refl
-is_unlike false true h = refl
-is_unlike false false h = absurd (h refl)
+is_unlike a b h = not_from_false (beq a b) (false_from_ne_true (beq a b) (λ e. h ((booleans_Decides a b).0 e)))
 
 module _ (b : Board) where
   abbrev Unstable : Signal → Type 0
@@ -164,7 +134,7 @@ module _ (b : Board) where
       record {
         there = (has_is b.circuit x (unless_none _ 3 a.0), r.there);
         unstable = (unlike_is _ _ (unless_none (is_unstable b x) 8 u.0), r.unstable);
-        new = (is_not (listed earlier x) (unless_none _ 7 l.0), All-weaker (λ y. listed (earlier ++ x ∷ []) y ≡ false) (λ y. listed earlier y ≡ false) (λ y h. (unlisted_push earlier x y h).0) xs r.new);
+        new = (not-true (listed earlier x) (unless_none _ 7 l.0), All-weaker (λ y. listed (earlier ++ x ∷ []) y ≡ false) (λ y. listed earlier y ≡ false) (λ y h. (unlisted_push earlier x y h).0) xs r.new);
         apart = (All-weaker (λ y. listed (earlier ++ x ∷ []) y ≡ false) (λ y. ¬ (x ≡ y)) (λ y h q. false≢true (sym (unlisted_push earlier x y h).1 ∙ subst (λ z. same_signal x z ≡ true) q (same_itself x))) xs r.new, r.apart);
       }
 
@@ -181,14 +151,14 @@ module _ (b : Board) where
     where
       both : (earlier ys : List Signal) → AllByRecursion (λ y. listed earlier y ≡ false) ys → AllByRecursion (λ y. ¬ (x ≡ y)) ys → AllByRecursion (λ y. listed (earlier ++ x ∷ []) y ≡ false) ys
       both earlier [] m n = tt
-      both earlier (y ∷ ys) m n = (push_unlisted earlier x y m.0 (not_true (same_signal x y) (λ e. n.0 (same_is x y e))), both earlier ys m.1 n.1)
+      both earlier (y ∷ ys) m n = (push_unlisted earlier x y m.0 (false_from_ne_true (same_signal x y) (λ e. n.0 (same_is x y e))), both earlier ys m.1 n.1)
 
   pub fire_passes : (xs : List Signal) → fire_stop b xs ≡ None → Fires b.kinds b.circuit b.state xs
   fire_passes xs e =
       let pins = none_first (unjoined_stop b) (unless (not (eqb (length xs) 0)) 6 ∷ entry_stops b [] xs) e in
       let some = none_first (unless (not (eqb (length xs) 0)) 6) (entry_stops b [] xs) pins.1 in
       let p = entries_pass [] xs some.1 in
-      record { some = λ q. false≢true (sym (is_not (eqb (length xs) 0) (unless_none _ 6 some.0)) ∙ eq-eqb (length xs) 0 (ap length q)); apart = p.apart; there = p.there; unstable = p.unstable }
+      record { some = λ q. false≢true (sym (not-true (eqb (length xs) 0) (unless_none _ 6 some.0)) ∙ eq-eqb (length xs) 0 (ap length q)); apart = p.apart; there = p.there; unstable = p.unstable }
 
   passes_fire : (xs : List Signal) → unjoined_stop b ≡ None → Fires b.kinds b.circuit b.state xs → fire_stop b xs ≡ None
   passes_fire xs none f =
@@ -198,7 +168,7 @@ module _ (b : Board) where
     where
       more : (ys : List Signal) → ¬ (ys ≡ []) → not (eqb (length ys) 0) ≡ true
       more [] h = absurd (h refl)
-      more (y ∷ ys) h = ap not (not_true (eqb (length (y ∷ ys)) 0) (λ e. let z = eqb-true (length (y ∷ ys)) 0 e in omega arith))
+      more (y ∷ ys) h = ap not (false_from_ne_true (eqb (length (y ∷ ys)) 0) (λ e. let z = eqb-true (length (y ∷ ys)) 0 e in omega arith))
 
 -- where every pin is joined, no pin stops a call
 pub joined_passes : (c : Circuit) → Numbered c.gates (length c.sources) → Joined c → at_pin (first_unjoined c) ≡ None
@@ -223,6 +193,13 @@ fired_race b xs long e =
     let f = fire_passes b xs e in
     race_of b.kinds b.circuit b.state (fired b.circuit xs b.state) xs f (fire_steps b.kinds b.circuit b.state xs long f)
 
+-- no check stops firing where every pin is joined, the list is not empty, and each entry passes
+pub fire_unstopped : (b : Board) (xs : List Signal) → unjoined_stop b ≡ None → eqb (length xs) 0 ≡ false → first_stop (entry_stops b [] xs) ≡ None → fire_stop b xs ≡ None
+fire_unstopped b xs pins some entries =
+    first_passed (unjoined_stop b) (unless (not (eqb (length xs) 0)) 6 ∷ entry_stops b [] xs) pins
+    ∙ first_passed (unless (not (eqb (length xs) 0)) 6) (entry_stops b [] xs) (unless_true _ 6 (ap not some))
+    ∙ entries
+
 pub fire_races : FireRaces
 fire_races b whole = record {
   steps = λ xs e. fired_race b xs whole.long e;
@@ -232,40 +209,23 @@ fire_races b whole = record {
       (steps_fire b.kinds b.circuit b.state t whole.long (inl race));
 }
 
--- a call that no check stops
-pub told_passed : {A : Type 0} (s : Option Stop) (a : A) → s ≡ None → answer a ≡ told_by s a
-told_passed None a e = refl
-told_passed (Some s) a e = let z : ◌≡◌ {A = ℕ} 0 1 = cc in absurd (omega arith)
-
+-- what a call leaves that no check stops
 pub left_passed : {A : Type 0} (s : Option Stop) (old new : A) → s ≡ None → left_by s old new ≡ new
 left_passed None old new e = refl
-left_passed (Some s) old new e = let z : ◌≡◌ {A = ℕ} 0 1 = cc in absurd (omega arith)
-
--- adopting settled marks that stand
-pub settled_passes : (o : Option (List Mark × List Mark)) (firsts seconds : List Mark) → o ≡ Some (firsts, seconds) → open_count seconds ≡ 0
-    → first_stop (unless (is_some o) 9 ∷ unless (eqb (open_count (unwrap_or o ([], [])).1) 0) 10 ∷ []) ≡ None
-settled_passes None firsts seconds e z = let y : ◌≡◌ {A = ℕ} 0 1 = cc in absurd (omega arith)
-settled_passes (Some p) firsts seconds e z =
-    let same : p ≡ (firsts, seconds) = cc in
-    first_passed (unless (eqb (open_count p.1) 0) 10) [] (unless_true (eqb (open_count p.1) 0) 10 (eq-eqb (open_count p.1) 0 (ap (λ (q : List Mark × List Mark). open_count q.1) same ∙ z)))
+left_passed (Some s) old new e = absurd (cc)
 
 -- what a derived comparison tells
-pub equal_tells : (x y : Signal) (t : Bool) → (t ≡ ghosts.eq x y) → cond t (x ≡ y) (x ≡ y → ⊥)
-equal_tells (signal.Input i) (signal.Input j) true e = ap signal.Input (eqb-true i j (sym e))
-equal_tells (signal.Input i) (signal.Input j) false e = λ q. let z : i ≡ j = cc in false≢true (e ∙ eq-eqb i j z)
-equal_tells (signal.Input i) (signal.Gate j) true e = absurd (true≢false e)
-equal_tells (signal.Input i) (signal.Gate j) false e = λ q. let z : ◌≡◌ {A = ℕ} 0 1 = cc in omega arith
-equal_tells (signal.Input i) (signal.Wire j) true e = absurd (true≢false e)
-equal_tells (signal.Input i) (signal.Wire j) false e = λ q. let z : ◌≡◌ {A = ℕ} 0 1 = cc in omega arith
-equal_tells (signal.Gate i) (signal.Input j) true e = absurd (true≢false e)
-equal_tells (signal.Gate i) (signal.Input j) false e = λ q. let z : ◌≡◌ {A = ℕ} 0 1 = cc in omega arith
-equal_tells (signal.Gate i) (signal.Gate j) true e = ap signal.Gate (eqb-true i j (sym e))
-equal_tells (signal.Gate i) (signal.Gate j) false e = λ q. let z : i ≡ j = cc in false≢true (e ∙ eq-eqb i j z)
-equal_tells (signal.Gate i) (signal.Wire j) true e = absurd (true≢false e)
-equal_tells (signal.Gate i) (signal.Wire j) false e = λ q. let z : ◌≡◌ {A = ℕ} 0 1 = cc in omega arith
-equal_tells (signal.Wire i) (signal.Input j) true e = absurd (true≢false e)
-equal_tells (signal.Wire i) (signal.Input j) false e = λ q. let z : ◌≡◌ {A = ℕ} 0 1 = cc in omega arith
-equal_tells (signal.Wire i) (signal.Gate j) true e = absurd (true≢false e)
-equal_tells (signal.Wire i) (signal.Gate j) false e = λ q. let z : ◌≡◌ {A = ℕ} 0 1 = cc in omega arith
-equal_tells (signal.Wire i) (signal.Wire j) true e = ap signal.Wire (eqb-true i j (sym e))
-equal_tells (signal.Wire i) (signal.Wire j) false e = λ q. let z : i ≡ j = cc in false≢true (e ∙ eq-eqb i j z)
+eq_same : (x y : Signal) → ghosts.eq x y ≡ same_signal x y
+eq_same (signal.Input i) (signal.Input j) = refl
+eq_same (signal.Input i) (signal.Gate j) = refl
+eq_same (signal.Input i) (signal.Wire j) = refl
+eq_same (signal.Gate i) (signal.Input j) = refl
+eq_same (signal.Gate i) (signal.Gate j) = refl
+eq_same (signal.Gate i) (signal.Wire j) = refl
+eq_same (signal.Wire i) (signal.Input j) = refl
+eq_same (signal.Wire i) (signal.Gate j) = refl
+eq_same (signal.Wire i) (signal.Wire j) = refl
+
+pub listed_any : (xs : List Signal) (x : Signal) → listed xs x ≡ list_any (λ y. ghosts.eq y x) xs
+listed_any [] x = refl
+listed_any (y ∷ ys) x = ap₂ (λ s t. s || t) (sym (eq_same y x)) (listed_any ys x)

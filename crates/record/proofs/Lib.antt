@@ -1,2 +1,3 @@
-pub mod Entered
 pub mod Fired
+pub mod Ran
+pub mod Sheets

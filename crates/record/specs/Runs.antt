@@ -1,13 +1,22 @@
 -- What a run answers and leaves.
 use Rattle.std.specs.Prelude.{◌≡◌, ℕ, List, Some, None, Option}
 use Rattle.gates.specs.declared.Mark.{Mark}
+use Rattle.gates.specs.Kinds.{Kind}
 use Rattle.gates.specs.Told.{Stop, Told, answer, refused}
 use Rattle.circuit.specs.declared.Signal.{Signal}
-use Rattle.circuit.specs.Circuits.{Has}
+use Rattle.circuit.specs.Circuits.{Circuit, Has}
 use Rattle.circuit.specs.Passes.{Run, FewSteps, open_count}
 use Rattle.races.specs.Races.{State, Outcome}
 use Rattle.races.specs.Exact.{Exact}
 use Rattle.record.specs.Boards.{Board, marked}
+
+-- both passes were run from a state: the step counts and the open count, and the marks that stand
+pub record Marked (ks : List Kind) (c : Circuit) (start : State) (counts : ℕ × ℕ × ℕ) (marks : Option (List Mark × List Mark)) : Type 0 where
+  pub firsts : List Mark
+  pub seconds : List Mark
+  pub stand : marks ≡ Some (firsts, seconds)
+  pub run : Run ks c start counts.0 firsts counts.1 seconds
+  pub open_signals : counts.2 ≡ open_count seconds
 
 -- both passes were run on the board
 pub record Ran (old : Board) (told : Told (ℕ × ℕ × ℕ)) (new : Board) : Type 0 where

@@ -1,11 +1,14 @@
 //! The circuit record: a circuit over any gate library, entered call by call, with its values and its marks.
 #![tactic(auto)]
 
-ghost use Rattle.std.specs.Prelude.{◌≡◌};
-ghost use Rattle.record.specs.Answers.{stop_of};
+ghost use Rattle.std.specs.Prelude.{◌≡◌, Some};
+ghost use Rattle.record.specs.Answers.{stop_of, refusal_of, refusal_text};
 
+use circuit::tables::changes::Misfit;
+use std::error::Error;
 use std::fmt;
 
+mod marks;
 pub mod record;
 
 /// Why a call was stopped. Nothing has changed then.
@@ -40,6 +43,7 @@ impl Refusal {
     pub fn number(self) -> u8
         ensures { result ≡ (stop_of self).number }
     {
+        // A match, since a variant with fields has no number of its own.
         match self {
             Refusal::NoKind => 1,
             Refusal::Full => 2,
@@ -56,7 +60,20 @@ impl Refusal {
     }
 }
 
+impl From<Misfit> for Refusal {
+    ghost from_gives = { λ misfit refusal. refusal ≡ refusal_of misfit };
+
+    fn from(misfit: Misfit) -> Refusal {
+        match misfit {
+            Misfit::Full => Refusal::Full,
+            Misfit::Absent => Refusal::Absent,
+        }
+    }
+}
+
 impl fmt::Display for Refusal {
+    ghost output = { λ refusal. Some (refusal_text refusal) };
+
     fn fmt<W: fmt::Write>(&self, f: &mut fmt::Formatter<W>) -> fmt::Result {
         let number = self.number();
         match *self {
@@ -65,3 +82,5 @@ impl fmt::Display for Refusal {
         }
     }
 }
+
+impl Error for Refusal {}

@@ -1,11 +1,13 @@
-//! What a record holds.
-ghost use Rattle.std.specs.Prelude.{◌≡◌, ℕ, ◌≤◌, true, length, vec_capacity};
-ghost use Rattle.circuit.specs.Circuits.{size};
-ghost use Rattle.circuit.specs.Views.{circuit_of};
+//! What a record holds and keeps.
+ghost use Rattle.record.specs.Boards.{Sound};
+ghost use Rattle.record.specs.Views.{board_of};
 
+use crate::marks::Marking;
 use circuit::tables::Tables;
-use gates::Mark;
+use gates::GateLibrary;
+use std::marker::Model;
 
+mod checks;
 pub mod clearing;
 pub mod entering;
 pub mod marking;
@@ -13,15 +15,30 @@ pub mod moving;
 
 /// A circuit record over a gate library.
 #[derive(Drop)]
-pub struct Record<L> {
+pub struct Record<L: GateLibrary> {
     library: L,
     tables: Tables,
     values: Vec<bool>,
-    firsts: Vec<Mark>,
-    seconds: Vec<Mark>,
-    spare: Vec<Mark>,
-    standing: bool,
-    ghost reserved: { (512 ≤ vec_capacity values) × (512 ≤ vec_capacity firsts) × (512 ≤ vec_capacity seconds) × (512 ≤ vec_capacity spare) },
-    ghost valued: { length values.items ≡ size (circuit_of tables) },
-    ghost marked: { standing ≡ true → (length firsts.items ≡ size (circuit_of tables)) × (length seconds.items ≡ size (circuit_of tables)) },
+    marking: Marking,
+}
+
+impl<L: GateLibrary> Model for Record<L> {
+    ghost use Rattle.std.specs.Prelude.{◌≤◌, vec_items, vec_capacity};
+    ghost use Rattle.record.specs.Boards.{Held, Filled};
+
+    // The library stands for its kinds: these are functions, and a model's value can hold none.
+    ghost Value = { Held L };
+
+    ghost view = { λ r. record { library = r.library; circuit = r.tables; state = vec_items r.values; marks = r.marking } };
+
+    ghost invariant = { λ r. Filled r.tables (vec_items r.values) r.marking × (512 ≤ vec_capacity r.values) };
+}
+
+impl<L: GateLibrary> Record<L> {
+    /// Theorem: what holds of every record's board.
+    pub fn sound(&self)
+        ensures { Sound (board_of L.GateLibrary.kinds self.now) }
+    {
+        let _ = &self.values;
+    }
 }

@@ -9,14 +9,6 @@ use record::record::Record;
 #[cfg(test)]
 mod tests;
 
-/// The number of a refusal, or 0 for an answer.
-pub fn number<T: Drop>(answer: Result<T, Refusal>) -> u8 {
-    match answer {
-        Ok(_) => 0,
-        Err(refusal) => refusal.number(),
-    }
-}
-
 /// Two NOR gates of the given kind, each fed by an input and by the other, with both inputs and their wires at 1.
 pub fn enter_latch<L: GateLibrary>(board: &mut Record<L>, nor: usize) -> Result<(), Refusal> {
     for i in 0..2 {

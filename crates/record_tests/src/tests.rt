@@ -5,6 +5,7 @@ use plain_gates::PlainGates;
 use std::test::Fail;
 use table_cells::TableCells;
 
+// Kinds of the complementing layer over plain gates, by their numbers in the library's list.
 const NOT: usize = 1;
 
 const AND_8: usize = 14;
@@ -17,40 +18,38 @@ const RELEASED: &[u8] = b"inputs 2\n?0\n?0\ngates 2\n??\n??\nwires 4\n?0\n??\n?0
 fn the_sheet_fits_its_buffer_exactly(rt: HostRuntime) -> Result<(), Fail> {
     let mut board = Record::open(rt.alloc(), Complement { below: PlainGates })?;
     enter_latch(&mut board, NOR_2)?;
-    assert!(rt; matches!(board.run(), Ok((4, 2, 4))));
-    let mut short = vec![in rt.alloc(); b'#'; 48]?;
-    assert!(rt; number(board.sheet(&mut short)) == 11);
-    assert!(rt; short.as_slice().starts_with(b"################"));
-    let mut buffer = vec![in rt.alloc(); b'#'; 60]?;
-    assert!(rt; matches!(board.sheet(&mut buffer), Ok(49)));
-    assert!(rt; buffer.as_slice().starts_with(RELEASED));
-    assert!(rt; buffer.as_slice().ends_with(b"\n###########"));
+    assert_eq!(rt; board.run(), Ok((4, 2, 4)));
+    let mut short = [b'#'; 48];
+    assert_eq!(rt; board.sheet(&mut short), Err(Refusal::ShortBuffer));
+    assert_eq!(rt; short, [b'#'; 48]);
+    let mut buffer = [b'#'; 60];
+    assert_eq!(rt; board.sheet(&mut buffer), Ok(49));
+    assert!(rt; buffer.starts_with(RELEASED));
+    assert!(rt; buffer.ends_with(b"\n###########"));
     Ok(())
 }
 
 #[test]
 fn the_first_check_refuses(rt: HostRuntime) -> Result<(), Fail> {
     let mut board = Record::open(rt.alloc(), Complement { below: PlainGates })?;
-    assert!(rt; number(board.add_gate(50)) == 1);
-    assert!(rt; number(board.marks(Signal::Input(0))) == 3);
-    assert!(rt; number(board.sheet(&mut [])) == 9);
+    assert_eq!(rt; board.add_gate(50), Err(Refusal::NoKind));
+    assert_eq!(rt; board.marks(Signal::Input(0)), Err(Refusal::Absent));
+    assert_eq!(rt; board.sheet(&mut []), Err(Refusal::NoMarks));
     board.add_input()?;
     board.add_gate(NOT)?;
-    assert!(rt; number(board.marks(Signal::Input(0))) == 9);
-    assert!(rt; number(board.unstable(Signal::Wire(1))) == 3);
-    assert!(rt;
-        matches!(
-            board.unstable(Signal::Input(0)),
-            Err(Refusal::Unjoined(0, 0))
-        )
+    assert_eq!(rt; board.marks(Signal::Input(0)), Err(Refusal::NoMarks));
+    assert_eq!(rt; board.unstable(Signal::Wire(1)), Err(Refusal::Absent));
+    assert_eq!(rt;
+        board.unstable(Signal::Input(0)),
+        Err(Refusal::Unjoined(0, 0))
     );
-    assert!(rt; matches!(board.run(), Err(Refusal::Unjoined(0, 0))));
-    assert!(rt; number(board.set_input(1, 2)) == 3);
-    assert!(rt; number(board.set_input(0, 2)) == 4);
-    assert!(rt; number(board.set_signal(Signal::Gate(1), 2)) == 3);
-    assert!(rt; number(board.set_signal(Signal::Gate(0), 2)) == 4);
-    assert!(rt; number(board.join(0, 0, Signal::Wire(0))) == 3);
-    assert!(rt; number(board.join(0, 1, Signal::Gate(0))) == 3);
+    assert_eq!(rt; board.run(), Err(Refusal::Unjoined(0, 0)));
+    assert_eq!(rt; board.set_input(1, 2), Err(Refusal::Absent));
+    assert_eq!(rt; board.set_input(0, 2), Err(Refusal::NotABit));
+    assert_eq!(rt; board.set_signal(Signal::Gate(1), 2), Err(Refusal::Absent));
+    assert_eq!(rt; board.set_signal(Signal::Gate(0), 2), Err(Refusal::NotABit));
+    assert_eq!(rt; board.join(0, 0, Signal::Wire(0)), Err(Refusal::Absent));
+    assert_eq!(rt; board.join(0, 1, Signal::Gate(0)), Err(Refusal::Absent));
     Ok(())
 }
 
@@ -58,14 +57,14 @@ fn the_first_check_refuses(rt: HostRuntime) -> Result<(), Fail> {
 fn there_is_room_for_32_inputs_96_gates_and_384_wires(rt: HostRuntime) -> Result<(), Fail> {
     let mut board = Record::open(rt.alloc(), Complement { below: PlainGates })?;
     for i in 0..32 {
-        assert!(rt; matches!(board.add_input(), Ok(n) if n == i));
+        assert_eq!(rt; board.add_input(), Ok(i));
     }
-    assert!(rt; number(board.add_input()) == 2);
+    assert_eq!(rt; board.add_input(), Err(Refusal::Full));
     for _ in 0..48 {
         board.add_gate(AND_8)?;
     }
-    assert!(rt; number(board.add_gate(NOT)) == 2);
-    assert!(rt; number(board.add_gate(50)) == 1);
+    assert_eq!(rt; board.add_gate(NOT), Err(Refusal::Full));
+    assert_eq!(rt; board.add_gate(50), Err(Refusal::NoKind));
     Ok(())
 }
 
@@ -74,19 +73,17 @@ fn accepted_changes_drop_the_marks_and_refused_ones_keep_them(rt: HostRuntime) -
     let mut board = Record::open(rt.alloc(), Complement { below: PlainGates })?;
     enter_latch(&mut board, NOR_2)?;
     board.run()?;
-    assert!(rt; number(board.join(0, 5, Signal::Gate(0))) == 3);
-    assert!(rt; number(board.set_signal(Signal::Gate(0), 3)) == 4);
-    assert!(rt;
-        matches!(
-            board.marks(Signal::Input(0)),
-            Ok((Mark::Unknown, Mark::Zero))
-        )
+    assert_eq!(rt; board.join(0, 5, Signal::Gate(0)), Err(Refusal::Absent));
+    assert_eq!(rt; board.set_signal(Signal::Gate(0), 3), Err(Refusal::NotABit));
+    assert_eq!(rt;
+        board.marks(Signal::Input(0)),
+        Ok((Mark::Unknown, Mark::Zero))
     );
     board.set_signal(Signal::Gate(0), 0)?;
-    assert!(rt; number(board.marks(Signal::Input(0))) == 9);
+    assert_eq!(rt; board.marks(Signal::Input(0)), Err(Refusal::NoMarks));
     board.run()?;
     board.join(0, 0, Signal::Input(0))?;
-    assert!(rt; number(board.marks(Signal::Input(0))) == 9);
+    assert_eq!(rt; board.marks(Signal::Input(0)), Err(Refusal::NoMarks));
     Ok(())
 }
 
@@ -97,12 +94,12 @@ fn every_library_serves(rt: HostRuntime) -> Result<(), Fail> {
     let nor = cells.add(2, 1)?;
     let mut board = Record::open(rt.alloc(), cells)?;
     enter_latch(&mut board, nor)?;
-    assert!(rt; matches!(board.run(), Ok((4, 2, 4))));
+    assert_eq!(rt; board.run(), Ok((4, 2, 4)));
     let pile = Complement {
         below: Complement { below: PlainGates },
     };
     let mut board = Record::open(rt.alloc(), pile)?;
     enter_latch(&mut board, 38)?;
-    assert!(rt; matches!(board.run(), Ok((4, 2, 4))));
+    assert_eq!(rt; board.run(), Ok((4, 2, 4)));
     Ok(())
 }

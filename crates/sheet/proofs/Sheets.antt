@@ -1,16 +1,16 @@
 -- Equal sheets have equal counts and marks.
-use Rattle.std.proofs.Common.{◌≡◌, ℕ, ◌+◌, ◌-◌, ◌*◌, ◌%◌, ◌^◌, ◌<◌, ◌≤◌, List, [], ◌∷◌, ◌++◌, length, take, drop, codes, decimal, sym, refl, ap, ◌∙◌, subst, ap₂, append_assoc, append-nil, arith}
+use Rattle.std.proofs.Common.{◌≡◌, ℕ, ◌+◌, ◌-◌, ◌*◌, ◌%◌, ◌^◌, ◌<◌, ◌≤◌, List, [], ◌∷◌, ◌++◌, length, take, drop, codes, decimal, sym, refl, ap, ◌∙◌, ap₂, append_assoc, append-nil, arith}
 use mathlib.Core.List.{append_cancel_left}
 use Rattle.std.specs.List.{AllByRecursion}
-use Rattle.std.proofs.lemmas.Fmt.{decimal_by_steps, decimal_injective}
+use Rattle.std.proofs.lemmas.Fmt.{decimal_by_steps, decimal_injective, length-decimal-le}
 use Rattle.std.proofs.ByRecursion.{All-append}
 use Rattle.std.proofs.lemmas.List.{length-take-le, length-drop, length-append, take-append-drop, take_rest, drop-drop}
 use Rattle.gates.specs.declared.Mark.{Mark}
 use Rattle.gates.specs.declared.Mark.TheVariants.{Zero, One, Unknown}
 use Rattle.gates.specs.Marks.{mark_symbol}
 use Rattle.sheet.specs.Sheets.{lines, section, sheet, Sheeted, SheetInjective, SheetLength}
-use Rattle.sheet.specs.Writing.{Wrote}
-use Rattle.sheet.proofs.Writes.{length-lines, wrote_then}
+use Rattle.sheet.specs.Longest.{SheetLongest}
+use Rattle.sheet.proofs.Writes.{length-lines, digits_two, digits_three}
 
 byte_same : (m n : Mark) → mark_symbol m ≡ mark_symbol n → m ≡ n
 byte_same Zero Zero e = refl
@@ -149,10 +149,20 @@ sheet_length n r p f g m count =
     let y = length-append (section (codes "gates ") (take r (drop n f)) (take r (drop n g))) (section (codes "wires ") (drop r (drop n f)) (drop r (drop n g))) in
     omega arith
 
--- a part of the marks, as a slice gives it
-pub part_length : (i j : ℕ) (f : List Mark) → i + j ≤ length f → length (take j (drop i f)) ≡ j
-part_length i j f h = length-take-le j (drop i f) (omega (arith, length-drop i f))
+pub sheet_longest : SheetLongest
+sheet_longest n r f g m few_inputs few_gates =
+    let p = length f - n - r in
+    let lf = m.enough in
+    let s = m.few in
+    let long = sheet_length n r p f g m (omega arith) in
+    let i = length-decimal-le 2 n (omega arith) few_inputs (omega arith) in
+    let j = length-decimal-le 2 r (omega arith) few_gates (omega arith) in
+    let k = length-decimal-le 3 p (omega arith) (omega arith) (omega arith) in (
+      omega arith,
+      λ full some_inputs some_gates. omega (arith, digits_two n some_inputs few_inputs, digits_two r some_gates few_gates, digits_three p (omega arith) (omega arith)),
+    )
 
+-- a part of the marks, as a slice gives it
 pub inputs_part : (n : ℕ) (f : List Mark) → take (n - 0) f ≡ take n f
 inputs_part n f = let e : n - 0 ≡ n = omega arith in ap (λ k. take k f) e
 
@@ -161,40 +171,3 @@ gates_part n r f = let e : n + r - n ≡ r = omega arith in ap (λ k. take k (dr
 
 pub wires_part : (n r size : ℕ) (f : List Mark) → length f ≡ size → take (size - (n + r)) (drop (n + r) f) ≡ drop r (drop n f)
 wires_part n r size f e = ap (λ k. take (k - (n + r)) (drop (n + r) f)) (sym e) ∙ take_rest f (n + r) ∙ sym (drop-drop r n f)
-
--- the three sections one after another
-module _ (n r : ℕ) (f g : List Mark) (s1 s2 s3 : List ℕ)
-    (e1 : s1 ≡ section (codes "inputs ") (take n f) (take n g))
-    (e2 : s2 ≡ section (codes "gates ") (take r (drop n f)) (take r (drop n g)))
-    (e3 : s3 ≡ section (codes "wires ") (drop r (drop n f)) (drop r (drop n g))) where
-  together_is : s1 ++ (s2 ++ s3) ≡ sheet n r f g
-  together_is = ap₂ (λ x y. x ++ y) e1 (ap₂ (λ x y. x ++ y) e2 e3)
-
-  pub sheet_end : (a1 a2 a3 : ℕ) → a1 ≡ 0 + length s1 → a2 ≡ a1 + length s2 → a3 ≡ a2 + length s3 → a3 ≡ length (sheet n r f g)
-  sheet_end a1 a2 a3 p q t =
-      let x = length-append s1 (s2 ++ s3) in
-      let y = length-append s2 s3 in
-      let z : a3 ≡ length (s1 ++ (s2 ++ s3)) = omega arith in
-      z ∙ ap length together_is
-
-  pub sheet_wrote : (b0 b1 b2 b3 : List ℕ) (a1 a2 : ℕ) → Wrote b0 b1 0 s1 → a1 ≡ 0 + length s1 → Wrote b1 b2 a1 s2 → a2 ≡ a1 + length s2 → Wrote b2 b3 a2 s3 → Wrote b0 b3 0 (sheet n r f g)
-  sheet_wrote b0 b1 b2 b3 a1 a2 w1 p w2 q w3 =
-      subst (λ bs. Wrote b0 b3 0 bs) together_is (wrote_then b0 b1 b3 0 a1 s1 (s2 ++ s3) w1 p (wrote_then b1 b2 b3 a1 a2 s2 s3 w2 q w3))
-
-  -- there is room for each in a buffer as long as the sheet
-  module _ (k : ℕ) (room : length (sheet n r f g) ≤ k) where
-    long : length s1 + (length s2 + length s3) ≤ k
-    long =
-        let x = length-append s1 (s2 ++ s3) in
-        let y = length-append s2 s3 in
-        let z = ap length together_is in
-        omega arith
-
-    pub room_one : 0 + length s1 ≤ k
-    room_one = let l = long in omega arith
-
-    pub room_two : (a1 : ℕ) → a1 ≡ 0 + length s1 → a1 + length s2 ≤ k
-    room_two a1 p = let l = long in omega arith
-
-    pub room_three : (a1 a2 : ℕ) → a1 ≡ 0 + length s1 → a2 ≡ a1 + length s2 → a2 + length s3 ≤ k
-    room_three a1 a2 p q = let l = long in omega arith

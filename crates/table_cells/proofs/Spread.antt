@@ -1,26 +1,15 @@
 -- The exact extension of a cell, from a pin on.
-use Rattle.std.proofs.Common.{◌≡◌, ℕ, suc, ◌+◌, ◌*◌, ◌^◌, ◌<◌, ◌≤◌, Bool, true, false, List, ◌∷◌, length, get_or, sym, ap, ◌∙◌, subst, mul_assoc, mul-le-mul_left, pow-suc, mul-add, arith, pow_pos}
+use Rattle.std.proofs.Common.{◌≡◌, ℕ, ◌+◌, ◌*◌, ◌<◌, Bool, true, false, List, ◌∷◌, length, get_or, sym, ap, ◌∙◌, mul_assoc, mul-add, arith}
 use Rattle.std.specs.List.{between}
 use Rattle.std.proofs.lemmas.Slice.{first_rest}
-use Rattle.std.proofs.lemmas.List.{nil_from_length}
 use Rattle.gates.specs.declared.Mark.{Mark}
 use Rattle.gates.specs.declared.Mark.TheVariants.{Zero, One, Unknown}
-use Rattle.gates.specs.Marks.{extended, settled, lub}
+use Rattle.gates.specs.Marks.{extended, lub}
 use Rattle.gates.proofs.Folds.{extended_zero, extended_one, extended_unknown, extended_same}
 use Rattle.table_cells.specs.Cells.{index_of, bit_at, output_by}
 
--- room for the weights of as many more pins as there are marks
-pub room_now : (w n : ℕ) → w * 2 ^ n ≤ 64 → w ≤ 64
-room_now w n room = omega (arith, mul-le-mul_left w (pow_pos n))
-
-room_next : (w n : ℕ) → w * 2 ^ suc n ≤ 64 → 2 * w * 2 ^ n ≤ 64
-room_next w n room = omega (arith, ap (λ k. w * k) (pow-suc 2 n), mul_assoc 2 w (2 ^ n), mul_assoc w (2 ^ n) 2)
-
 abbrev rest : List Mark → List Mark
 rest marks = between 1 (length marks) marks
-
-pub room_rest : (w : ℕ) (marks : List Mark) → 0 < length marks → w * 2 ^ length marks ≤ 64 → 2 * w * 2 ^ length (rest marks) ≤ 64
-room_rest w marks some room = room_next w (length (rest marks)) (subst (λ ms. w * 2 ^ length ms ≤ 64) (first_rest marks Zero some) room)
 
 low_index : (i w n : ℕ) → i + w * (2 * n) ≡ i + 2 * w * n
 low_index i w n = omega (arith, mul_assoc w 2 n, mul_assoc 2 w n)
@@ -55,11 +44,6 @@ module _ (truth i w : ℕ) (marks : List Mark) (some : 0 < length marks) where
   spread-unknown l h e f is =
       ap (λ m. lub m h) (e ∙ sym low) ∙ ap (lub _) (f ∙ sym high)
       ∙ sym (first_is Unknown is ∙ extended_unknown (from truth i w) (rest marks))
-
-pub spread_none : (truth i w : ℕ) (marks : List Mark) → length marks ≡ 0 → extended (from truth i w) marks ≡ settled (bit_at truth i)
-spread_none truth i w marks none =
-    let alone : i + w * 0 ≡ i = omega arith in
-    ap (extended (from truth i w)) (nil_from_length marks none) ∙ ap (λ n. settled (bit_at truth n)) alone
 
 -- from the first pin on
 pub spread_all : (truth : ℕ) (marks : List Mark) → extended (from truth 0 1) marks ≡ extended (output_by truth) marks

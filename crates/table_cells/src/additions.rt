@@ -26,7 +26,7 @@ impl TableCells {
         ensures kinds { kinds_in self.new ≡ left_by (cell_stop (kinds_in self.old) pins) (kinds_in self.old) (kinds_in self.old ++ cell_kind pins truth ∷ []) }
     {
         let kind = self.cells.len();
-        if kind >= MAX_CELLS || pins < 1 || pins > 6 {
+        if kind >= MAX_CELLS || !(1..=6).contains(&pins) {
             return Err(CellRefusal::OutsideLimits);
         }
         self.cells.push_reserved(Cell { pins, truth });

@@ -5,22 +5,25 @@ ghost use Rattle.table_cells.specs.Cells.{index_of, bit_at, output_by};
 
 use gates::Mark;
 
-#[derive(Clone, Copy)]
+/// A truth number for 1 to 6 pins.
+#[derive(Clone, Copy, PartialEq, Eq, Debug)]
 pub(crate) struct Cell {
     pub(crate) pins: usize,
     pub(crate) truth: u64,
+    ghost some: { 1 ≤ pins },
+    ghost few: { pins ≤ 6 },
 }
 
 impl Cell {
     pub(crate) fn value(&self, bits: &[bool]) -> bool
-        requires { length bits.now ≤ 6 }
+        requires { length bits.now ≡ self.now.pins }
         ensures { result ≡ output_by self.now.truth bits.now }
     {
         bit(self.truth, index(bits))
     }
 
     pub(crate) fn extension(&self, marks: &[Mark]) -> Mark
-        requires { length marks.now ≤ 6 }
+        requires { length marks.now ≡ self.now.pins }
         ensures { result ≡ extended (output_by self.now.truth) marks.now }
     {
         spread(self.truth, marks, 0, 1)
@@ -43,10 +46,7 @@ fn index(bits: &[bool]) -> u32
 {
     match bits {
         [] => 0,
-        [bit, rest @ ..] => {
-            let high = 2 * index(rest);
-            if *bit { high + 1 } else { high }
-        }
+        [bit, rest @ ..] => 2 * index(rest) + u32::from(*bit),
     }
 }
 
@@ -58,7 +58,7 @@ fn spread(truth: u64, marks: &[Mark], index: u32, weight: u32) -> Mark
     ensures { result ≡ extended (λ bits. bit_at truth (index + weight * index_of bits)) marks.now }
 {
     match marks {
-        [] => Mark::of_bit(bit(truth, index)),
+        [] => Mark::from(bit(truth, index)),
         [mark, rest @ ..] => {
             let next = 2 * weight;
             match *mark {

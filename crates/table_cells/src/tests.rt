@@ -6,11 +6,11 @@ use std::test::Fail;
 #[test]
 fn a_cell_of_three_pins(rt: HostRuntime) -> Result<(), Fail> {
     let mut cells = TableCells::open(rt.alloc())?;
-    assert!(rt; matches!(cells.add(3, 228), Ok(0)));
+    assert_eq!(rt; cells.add(3, 228), Ok(0));
     let settled = [Mark::Unknown, Mark::One, Mark::One];
-    assert!(rt; matches!(cells.extension(0, &settled), Some(Mark::One)));
+    assert_eq!(rt; cells.extension(0, &settled), Some(Mark::One));
     let open = [Mark::Unknown, Mark::Zero, Mark::One];
-    assert!(rt; matches!(cells.extension(0, &open), Some(Mark::Unknown)));
+    assert_eq!(rt; cells.extension(0, &open), Some(Mark::Unknown));
     Ok(())
 }
 
@@ -19,8 +19,8 @@ fn higher_truth_bits_are_ignored(rt: HostRuntime) -> Result<(), Fail> {
     let mut cells = TableCells::open(rt.alloc())?;
     for truth in [2, 6] {
         let kind = cells.add(1, truth)?;
-        assert!(rt; matches!(cells.value(kind, &[false]), Some(false)));
-        assert!(rt; matches!(cells.value(kind, &[true]), Some(true)));
+        assert_eq!(rt; cells.value(kind, &[false]), Some(false));
+        assert_eq!(rt; cells.value(kind, &[true]), Some(true));
     }
     Ok(())
 }
@@ -30,10 +30,10 @@ fn an_absent_kind_or_another_length_gives_nothing(rt: HostRuntime) -> Result<(),
     let mut cells = TableCells::open(rt.alloc())?;
     let _ = cells.add(2, 8)?;
     for kind in [0, 1] {
-        assert!(rt; cells.value(kind, &[true]).is_none());
-        assert!(rt; cells.value(kind, &[]).is_none());
-        assert!(rt; cells.extension(kind, &[Mark::One]).is_none());
-        assert!(rt; cells.extension(kind, &[]).is_none());
+        assert_eq!(rt; cells.value(kind, &[true]), None);
+        assert_eq!(rt; cells.value(kind, &[]), None);
+        assert_eq!(rt; cells.extension(kind, &[Mark::One]), None);
+        assert_eq!(rt; cells.extension(kind, &[]), None);
     }
     Ok(())
 }
@@ -42,12 +42,12 @@ fn an_absent_kind_or_another_length_gives_nothing(rt: HostRuntime) -> Result<(),
 fn a_cell_outside_the_limits_is_refused(rt: HostRuntime) -> Result<(), Fail> {
     let mut cells = TableCells::open(rt.alloc())?;
     for pins in [0, 7] {
-        assert!(rt; matches!(cells.add(pins, 1), Err(CellRefusal::OutsideLimits)));
+        assert_eq!(rt; cells.add(pins, 1), Err(CellRefusal::OutsideLimits));
     }
     for _ in 0..32 {
         let _ = cells.add(6, 1)?;
     }
-    assert!(rt; matches!(cells.add(6, 1), Err(CellRefusal::OutsideLimits)));
-    assert!(rt; cells.kind_count() == 32);
+    assert_eq!(rt; cells.add(6, 1), Err(CellRefusal::OutsideLimits));
+    assert_eq!(rt; cells.kind_count(), 32);
     Ok(())
 }

@@ -1,11 +1,13 @@
 -- The worked boards, by computation.
-use Rattle.std.proofs.Common.{◌≡◌, ℕ, zero, suc, ◌+◌, ◌*◌, ◌<◌, Bool, true, false, not, ◌&&◌, List, [], ◌∷◌, map, length, sym, refl, ap, ◌∙◌, subst, true≢false, arith}
-use mathlib.Core.Bool.{false≢true}
+use Rattle.std.proofs.Common.{◌≡◌, ℕ, zero, suc, ◌+◌, ◌*◌, ◌<◌, ◌==◌, Bool, true, not, ◌&&◌, List, map, length, sym, refl, ap, ◌∙◌, subst, true≢false, arith}
 use native.Mathlib.Decide.{ℕ_discrete}
+use Rattle.std.specs.Bool.{Decides}
+use Rattle.std.specs.Cmp.{unsigned_Decides}
+use Rattle.std.specs.Cmp.Lexicographic.{pointwise, pointwise_decides}
 use Rattle.std.proofs.lemmas.Bool.{and_parts}
 use Rattle.gates.specs.declared.Mark.{Mark}
 use Rattle.gates.specs.declared.Mark.TheVariants.{Zero, One, Unknown}
-use Rattle.gates.specs.Marks.{settled}
+use Rattle.gates.specs.Marks.{settled, mark_code}
 use Rattle.plain_gates.specs.Plain.{plain}
 use Rattle.circuit.specs.declared.passes.Pass.TheVariants.{First, Second}
 use Rattle.circuit.specs.Passes.{stepped, iterate, Ends, Run}
@@ -15,48 +17,29 @@ use Rattle.sheet.proofs.Writes.{digits_one}
 use Rattle.worked_boards.specs.Cases.{CircuitCase, bench_kinds}
 use Rattle.worked_boards.specs.Boards.{empty_board, rising_input, inverter_ring, resting_buffer_ring, unsettled_buffer_ring, latch_released, latch_kept_set, xor_of_one_input, BoardsAsSaid}
 
+abbrev mark_of : ℕ → Mark
+mark_of zero = Zero
+mark_of (suc zero) = One
+mark_of (suc (suc n)) = Unknown
+
+of_code : (m : Mark) → mark_of (mark_code m) ≡ m
+of_code Zero = refl
+of_code One = refl
+of_code Unknown = refl
+
 abbrev alike : Mark → Mark → Bool
-alike Zero Zero = true
-alike Zero One = false
-alike Zero Unknown = false
-alike One Zero = false
-alike One One = true
-alike One Unknown = false
-alike Unknown Zero = false
-alike Unknown One = false
-alike Unknown Unknown = true
+alike m n = mark_code m == mark_code n
+
+alike_decides : (m n : Mark) → Decides (alike m n) (m ≡ n)
+alike_decides m n =
+    let codes = unsigned_Decides (mark_code m) (mark_code n) in
+    (λ e. sym (of_code m) ∙ ap mark_of (codes.0 e) ∙ of_code n, λ e. codes.1 (ap mark_code e))
 
 abbrev same : List Mark → List Mark → Bool
-same [] [] = true
-same [] (n ∷ ns) = false
-same (m ∷ ms) [] = false
-same (m ∷ ms) (n ∷ ns) = alike m n && same ms ns
+same = pointwise alike
 
-alike_is : (m n : Mark) → alike m n ≡ true → m ≡ n
-alike_is Zero Zero e = refl
-alike_is Zero One e = absurd (false≢true e)
-alike_is Zero Unknown e = absurd (false≢true e)
-alike_is One Zero e = absurd (false≢true e)
-alike_is One One e = refl
-alike_is One Unknown e = absurd (false≢true e)
-alike_is Unknown Zero e = absurd (false≢true e)
-alike_is Unknown One e = absurd (false≢true e)
-alike_is Unknown Unknown e = refl
-
-same_is : (ms ns : List Mark) → same ms ns ≡ true → ms ≡ ns
-same_is [] [] e = refl
-same_is [] (n ∷ ns) e = absurd (false≢true e)
-same_is (m ∷ ms) [] e = absurd (false≢true e)
-same_is (m ∷ ms) (n ∷ ns) e = ap (λ x. x ∷ ms) (alike_is m n (and_parts _ _ e).0) ∙ ap (λ l. n ∷ l) (same_is ms ns (and_parts _ _ e).1)
-
-alike_self : (m : Mark) → alike m m ≡ true
-alike_self Zero = refl
-alike_self One = refl
-alike_self Unknown = refl
-
-same_self : (ms : List Mark) → same ms ms ≡ true
-same_self [] = refl
-same_self (m ∷ ms) = ap (λ b. b && same ms ms) (alike_self m) ∙ same_self ms
+same_decides : (ms ns : List Mark) → Decides (same ms ns) (ms ≡ ns)
+same_decides = pointwise_decides alike_decides
 
 abbrev moved_below : (List Mark → List Mark) → List Mark → ℕ → Bool
 moved_below f from zero = true
@@ -65,7 +48,7 @@ moved_below f from (suc n) = not (same (f (iterate f n from)) (iterate f n from)
 moved_at : (f : List Mark → List Mark) (from : List Mark) (n : ℕ) → moved_below f from n ≡ true → (k : ℕ) → k < n → f (iterate f k from) ≡ iterate f k from → ⊥
 moved_at f from zero e k h q = absurd (omega arith)
 moved_at f from (suc n) e k h q = elim (ℕ_discrete k n) [
-  | yes s ↦ true≢false (sym (and_parts _ _ e).0 ∙ ap not (subst (λ m. same (f (iterate f m from)) (iterate f m from) ≡ true) s (subst (λ l. same (f (iterate f k from)) l ≡ true) q (same_self (f (iterate f k from))))))
+  | yes s ↦ true≢false (sym (and_parts _ _ e).0 ∙ ap not (subst (λ m. same (f (iterate f m from)) (iterate f m from) ≡ true) s (subst (λ l. same (f (iterate f k from)) l ≡ true) q ((same_decides (f (iterate f k from)) (f (iterate f k from))).1 refl))))
   | no s ↦ moved_at f from n (and_parts _ _ e).1 k (omega arith) q
 ]
 
@@ -73,7 +56,7 @@ ends_by : (f : List Mark → List Mark) (from : List Mark) (n : ℕ) (to : List 
 ends_by f from n to e =
     let a = and_parts (same to (iterate f n from)) (same (f to) to && moved_below f from n) e in
     let b = and_parts (same (f to) to) (moved_below f from n) a.1 in
-    record { reached = same_is to (iterate f n from) a.0; still = same_is (f to) to b.0; moved = moved_at f from n b.1 }
+    record { reached = (same_decides to (iterate f n from)).0 a.0; still = (same_decides (f to) to).0 b.0; moved = moved_at f from n b.1 }
 
 -- one test for each pass
 abbrev ends_test : (List Mark → List Mark) → List Mark → ℕ → List Mark → Bool

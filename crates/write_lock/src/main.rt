@@ -2,16 +2,17 @@
 #![tactic(auto)]
 
 use circuit::Signal;
-use gates::Complement;
+use gates::{Complement, Mark};
 use plain_gates::PlainGates;
 use record::Refusal;
 use record::record::Record;
 use std::fmt::Display;
-use std::io;
+use std::io::Write;
+use std::{fmt, io};
 
 type Board = Record<Complement<PlainGates>>;
 
-// Kinds of the complementing layer over plain gates.
+// Kinds of the complementing layer over plain gates, by their numbers in the library's list.
 const NOT: usize = 1;
 
 const AND_2: usize = 2;
@@ -40,6 +41,7 @@ const RELEASED: Signal = Signal::Gate(4);
 
 const LED: Signal = Signal::Gate(5);
 
+// Fewer calls than `calls::Call` has: the shortest example of a record used from code, and its `Debug` is what is printed.
 #[derive(Clone, Copy, Debug)]
 enum Call {
     AddInput,
@@ -115,6 +117,28 @@ static SESSION: [Call; 52] = [
     Call::Sheet,
 ];
 
+// First-pass steps, second-pass steps, open signals.
+#[derive(Drop)]
+struct Counts((usize, usize, usize));
+
+impl Display for Counts {
+    fn fmt<W: fmt::Write>(&self, f: &mut fmt::Formatter<W>) -> fmt::Result {
+        let (first, second, open) = self.0;
+        write!(f, "{first} {second} {open}")
+    }
+}
+
+// The first and the second mark of a signal.
+#[derive(Drop)]
+struct Marks((Mark, Mark));
+
+impl Display for Marks {
+    fn fmt<W: fmt::Write>(&self, f: &mut fmt::Formatter<W>) -> fmt::Result {
+        let (first, second) = self.0;
+        write!(f, "{first}{second}")
+    }
+}
+
 fn tell<T: Display + Drop>(
     rt: &HostRuntime,
     call: Call,
@@ -126,67 +150,37 @@ fn tell<T: Display + Drop>(
     }
 }
 
-fn done(answer: Result<(), Refusal>) -> Result<&'static str, Refusal> {
-    match answer {
-        Ok(()) => Ok("done"),
-        Err(refusal) => Err(refusal),
-    }
+fn tell_done(rt: &HostRuntime, call: Call, answer: Result<(), Refusal>) -> io::Result<()> {
+    tell(rt, call, answer.map(|()| "done"))
 }
 
-fn tell_run(rt: &HostRuntime, board: &mut Board) -> io::Result<()> {
-    match board.run() {
-        Ok((first, second, open)) => println!(rt; "Run: {first} {second} {open}"),
-        Err(refusal) => println!(rt; "Run: {refusal}"),
-    }
-}
-
-fn tell_marks(rt: &HostRuntime, board: &Board, signal: Signal) -> io::Result<()> {
-    match board.marks(signal) {
-        Ok((first, second)) => {
-            let first = first.symbol() as char;
-            let second = second.symbol() as char;
-            println!(rt; "Marks({signal:?}): {first}{second}")
-        }
-        Err(refusal) => println!(rt; "Marks({signal:?}): {refusal}"),
-    }
-}
-
+// The length of the sheet, and the sheet.
 fn tell_sheet(rt: &HostRuntime, board: &Board) -> io::Result<()> {
     let mut buffer = [0u8; 1565];
-    match board.sheet(&mut buffer) {
-        Ok(length) => {
-            println!(rt; "Sheet: {length}")?;
-            for byte in buffer.iter().take(length) {
-                print!(rt; "{}", *byte as char)?;
-            }
-            Ok(())
-        }
-        Err(refusal) => println!(rt; "Sheet: {refusal}"),
-    }
+    let answer = board.sheet(&mut buffer);
+    tell(rt, Call::Sheet, answer)?;
+    let sheet = answer.ok().and_then(|length| buffer.get(..length));
+    rt.stdout().write_all(sheet.unwrap_or(&[]))
 }
 
 fn answer(rt: &HostRuntime, board: &mut Board, call: Call) -> io::Result<()> {
     match call {
         Call::AddInput => tell(rt, call, board.add_input()),
         Call::AddGate(kind) => tell(rt, call, board.add_gate(kind)),
-        Call::Join(gate, pin, source) => tell(rt, call, done(board.join(gate, pin, source))),
-        Call::SetInput(input, bit) => tell(rt, call, done(board.set_input(input, bit))),
-        Call::SetSignal(signal, bit) => tell(rt, call, done(board.set_signal(signal, bit))),
+        Call::Join(gate, pin, source) => tell_done(rt, call, board.join(gate, pin, source)),
+        Call::SetInput(input, bit) => tell_done(rt, call, board.set_input(input, bit)),
+        Call::SetSignal(signal, bit) => tell_done(rt, call, board.set_signal(signal, bit)),
         Call::Unstable(signal) => tell(rt, call, board.unstable(signal)),
-        Call::Marks(signal) => tell_marks(rt, board, signal),
-        Call::Run => tell_run(rt, board),
+        Call::Marks(signal) => tell(rt, call, board.marks(signal).map(Marks)),
+        Call::Run => tell(rt, call, board.run().map(Counts)),
         Call::Sheet => tell_sheet(rt, board),
     }
 }
 
-fn work(rt: &HostRuntime) -> anyhow::Result<()> {
+fn main(rt: HostRuntime) -> anyhow::Result<()> {
     let mut board = Record::open(rt.alloc(), Complement { below: PlainGates })?;
     for call in &SESSION {
-        answer(rt, &mut board, *call)?;
+        answer(&rt, &mut board, *call)?;
     }
     Ok(())
-}
-
-fn main(rt: HostRuntime) -> anyhow::Result<()> {
-    work(&rt)
 }

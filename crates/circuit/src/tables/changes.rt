@@ -1,10 +1,9 @@
 //! Opening and filling the tables; what does not fit is refused and changes nothing.
-ghost use Rattle.std.specs.Prelude.{◌≡◌, length, IfOk, if◌then◌else◌, Some, None};
+ghost use Rattle.std.specs.Prelude.{◌≡◌, length, IfOk, if◌then◌else◌, Ok, Err};
+ghost use Rattle.circuit.specs.Wiring.{Kept};
 ghost use Rattle.circuit.specs.Changes.{empty, input_fits, with_input, gate_fits, with_gate, join_fits, with_joined, has_input, with_applied};
-ghost use Rattle.circuit.specs.Views.{circuit_of};
 
 use super::Tables;
-use crate::reserved::push_all;
 use crate::{Gate, Signal};
 use std::alloc::{AllocError, Global};
 
@@ -14,9 +13,19 @@ pub const MAX_GATES: usize = 96;
 
 pub const MAX_WIRES: usize = 384;
 
+/// Why a change is refused.
+#[derive(Clone, Copy, PartialEq, Eq, Debug)]
+pub enum Misfit {
+    /// There is no room left.
+    Full,
+    /// What is named is not there.
+    Absent,
+}
+
 impl Tables {
     pub fn open(heap: Global) -> Result<Tables, AllocError>
-        ensures { IfOk result (λ t. circuit_of t ≡ empty) }
+        ensures value { IfOk result (λ t. t ≡ empty) }
+        ensures kept { IfOk result Kept }
     {
         Ok(Tables {
             applied: Vec::with_capacity(heap, MAX_INPUTS)?,
@@ -25,62 +34,66 @@ impl Tables {
         })
     }
 
-    /// The new input's number, or nothing where there is no room.
-    pub fn add_input(&mut self) -> Option<usize>
-        ensures answer { result ≡ (if input_fits (circuit_of self.old) then Some (length (circuit_of self.old).applied) else None) }
-        ensures after { circuit_of self.new ≡ (if input_fits (circuit_of self.old) then with_input (circuit_of self.old) else circuit_of self.old) }
+    /// The new input's number, where there is room.
+    pub fn add_input(&mut self) -> Result<usize, Misfit>
+        ensures answer { result ≡ (if input_fits self.old then Ok (length self.old.applied) else Err Misfit.Full) }
+        ensures after { self.new ≡ (if input_fits self.old then with_input self.old else self.old) }
+        ensures kept { Kept self.new }
     {
         let number = self.applied.len();
         if number >= MAX_INPUTS {
-            return None;
+            return Err(Misfit::Full);
         }
         self.applied.push_reserved(false);
-        Some(number)
+        Ok(number)
     }
 
-    /// The new gate's number, or nothing where there is no room for it or its wires.
-    pub fn add_gate(&mut self, kind: usize, pins: usize) -> Option<usize>
-        ensures answer { result ≡ (if gate_fits (circuit_of self.old) pins then Some (length (circuit_of self.old).gates) else None) }
-        ensures after { circuit_of self.new ≡ (if gate_fits (circuit_of self.old) pins then with_gate (circuit_of self.old) kind pins else circuit_of self.old) }
+    /// The new gate's number, where there is room for it and its wires.
+    pub fn add_gate(&mut self, kind: usize, pins: usize) -> Result<usize, Misfit>
+        ensures answer { result ≡ (if gate_fits self.old pins then Ok (length self.old.gates) else Err Misfit.Full) }
+        ensures after { self.new ≡ (if gate_fits self.old pins then with_gate self.old kind pins else self.old) }
+        ensures kept { Kept self.new }
     {
         let number = self.gates.len();
         let first = self.sources.len();
         if number >= MAX_GATES || pins > MAX_WIRES - first {
-            return None;
+            return Err(Misfit::Full);
         }
         self.gates.push_reserved(Gate { kind, first, pins });
-        let _ = push_all(&mut self.sources, pins, None);
-        Some(number)
+        let Ok(()) = self.sources.resize(first + pins, None) else {
+            unreachable!()
+        };
+        Ok(number)
     }
 
-    /// Joins a gate's pin to a source; false where one of them is not there.
-    pub fn join(&mut self, gate: usize, pin: usize, source: Signal) -> bool
-        ensures answer { result ≡ join_fits (circuit_of self.old) gate pin source }
-        ensures after { circuit_of self.new ≡ (if join_fits (circuit_of self.old) gate pin source then with_joined (circuit_of self.old) gate pin source else circuit_of self.old) }
+    /// Joins a gate's pin to a source, where both are there.
+    pub fn join(&mut self, gate: usize, pin: usize, source: Signal) -> Result<(), Misfit>
+        ensures answer { result ≡ (if join_fits self.old gate pin source then Ok tt else Err Misfit.Absent) }
+        ensures after { self.new ≡ (if join_fits self.old gate pin source then with_joined self.old gate pin source else self.old) }
+        ensures kept { Kept self.new }
     {
         if gate >= self.gates.len() {
-            return false;
+            return Err(Misfit::Absent);
         }
-        let Gate { first, pins, .. } = self.gates[gate];
+        let Gate { first, pins, .. } = self.gate(gate);
         if pin >= pins {
-            return false;
+            return Err(Misfit::Absent);
         }
-        let Some(source) = self.source_of(source) else {
-            return false;
-        };
+        let source = self.source_of(source).ok_or(Misfit::Absent)?;
         self.sources[first + pin] = Some(source);
-        true
+        Ok(())
     }
 
-    /// Sets an input's applied value; false where there is no such input.
-    pub fn apply(&mut self, input: usize, bit: bool) -> bool
-        ensures answer { result ≡ has_input (circuit_of self.old) input }
-        ensures after { circuit_of self.new ≡ (if has_input (circuit_of self.old) input then with_applied (circuit_of self.old) input bit else circuit_of self.old) }
+    /// Sets an input's applied value, where there is such an input.
+    pub fn apply(&mut self, input: usize, bit: bool) -> Result<(), Misfit>
+        ensures answer { result ≡ (if has_input self.old input then Ok tt else Err Misfit.Absent) }
+        ensures after { self.new ≡ (if has_input self.old input then with_applied self.old input bit else self.old) }
+        ensures kept { Kept self.new }
     {
         if input >= self.applied.len() {
-            return false;
+            return Err(Misfit::Absent);
         }
         self.applied[input] = bit;
-        true
+        Ok(())
     }
 }

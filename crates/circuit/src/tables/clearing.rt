@@ -1,14 +1,15 @@
 //! Taking everything out of the tables again.
 ghost use Rattle.std.specs.Prelude.{◌≡◌};
+ghost use Rattle.circuit.specs.Wiring.{Kept};
 ghost use Rattle.circuit.specs.Changes.{empty};
-ghost use Rattle.circuit.specs.Views.{circuit_of};
 
 use super::Tables;
 
 impl Tables {
     /// Takes all signals away; the memory stays reserved.
     pub fn clear(&mut self)
-        ensures { circuit_of self.new ≡ empty }
+        ensures value { self.new ≡ empty }
+        ensures kept { Kept self.new }
     {
         self.applied.clear();
         self.gates.clear();

@@ -1,36 +1,35 @@
 //! What the tables hold.
-ghost use Rattle.std.specs.Prelude.{◌≡◌, ℕ, length, if◌then◌else◌, Some, None};
-ghost use Rattle.circuit.specs.Circuits.{place, size};
+ghost use Rattle.std.specs.Prelude.{◌≡◌, ℕ, ◌+◌, ◌<◌, ◌≤◌, length, if◌then◌else◌, Some, None, slice_index_or};
+ghost use Rattle.circuit.specs.Circuits.{no_gate, place, size};
 ghost use Rattle.circuit.specs.Changes.{has_signal, source_of};
-ghost use Rattle.circuit.specs.Wiring.{first_unjoined, FirstUnjoinedExact};
-ghost use Rattle.circuit.specs.Views.{circuit_of};
+ghost use Rattle.circuit.specs.Wiring.{first_unjoined, FirstUnjoinedExact, Kept};
 
 use super::Tables;
-use crate::{Signal, Source};
+use crate::{Gate, Signal, Source};
 
 impl Tables {
     pub fn input_count(&self) -> usize
-        ensures { result ≡ length (circuit_of self.now).applied }
+        ensures { result ≡ length self.now.applied }
     {
         self.applied.len()
     }
 
     pub fn gate_count(&self) -> usize
-        ensures { result ≡ length (circuit_of self.now).gates }
+        ensures { result ≡ length self.now.gates }
     {
         self.gates.len()
     }
 
     /// How many signals there are.
     pub fn size(&self) -> usize
-        ensures { result ≡ size (circuit_of self.now) }
+        ensures { result ≡ size self.now }
     {
         self.applied.len() + self.gates.len() + self.sources.len()
     }
 
     /// Where a signal stands in sheet order, or nothing where there is no such signal.
     pub fn place(&self, signal: Signal) -> Option<usize>
-        ensures { result ≡ (if has_signal (circuit_of self.now) signal then Some (place (circuit_of self.now) signal) else None) }
+        ensures { result ≡ (if has_signal self.now signal then Some (place self.now signal) else None) }
     {
         let inputs = self.applied.len();
         let gates = self.gates.len();
@@ -44,7 +43,7 @@ impl Tables {
 
     /// A signal as a source: an input or a gate that is there.
     pub fn source_of(&self, signal: Signal) -> Option<Source>
-        ensures { result ≡ source_of (circuit_of self.now) signal }
+        ensures { result ≡ source_of self.now signal }
     {
         match signal {
             Signal::Input(i) if i < self.applied.len() => Some(Source::Input(i)),
@@ -53,15 +52,25 @@ impl Tables {
         }
     }
 
+    // A gate that is there; so are its wires.
+    pub(super) fn gate(&self, number: usize) -> Gate
+        requires { number < length self.now.gates }
+        ensures is { result ≡ slice_index_or self.now.gates number no_gate }
+        ensures wires { result.first + result.pins ≤ length self.now.sources }
+    {
+        self.gates[number]
+    }
+
     /// The first unjoined pin, by gate and then by pin.
     pub fn first_unjoined(&self) -> Option<(usize, usize)>
-        ensures { result ≡ first_unjoined (circuit_of self.now) }
+        ensures first { result ≡ first_unjoined self.now }
+        ensures kept { Kept self.now }
     {
         'search: {
-            for number in 0..self.gates.len() {
-                let gate = self.gates[number];
-                for pin in 0..gate.pins {
-                    if self.sources[gate.first + pin].is_none() {
+            for (number, gate) in self.gates.iter().enumerate() {
+                let sources = &self.sources[gate.first..gate.first + gate.pins];
+                for (pin, source) in sources.iter().enumerate() {
+                    if source.is_none() {
                         break 'search Some((number, pin));
                     }
                 }
@@ -72,8 +81,6 @@ impl Tables {
 }
 
 /// Theorem: the first unjoined pin is the one that comes first by gate and then by pin, and there is none exactly if all are joined.
-pub fn first_unjoined_exact() -> u8
+pub fn first_unjoined_exact()
     ensures { FirstUnjoinedExact }
-{
-    0
-}
+{}

@@ -1,49 +1,30 @@
-use Rattle.std.proofs.Common.{length, sym, ap, ◌∙◌, inl, inr, arith}
-use Rattle.gate_list_format.specs.Slots.{accepted}
-use Rattle.gate_list_format.specs.Lists.{write_input, write_gate}
-use Rattle.gate_list_format.specs.Places.{inputs_place, gates_place}
-use Rattle.gate_list_format.proofs.Admitted.{sized, oversized}
-use Rattle.gate_list_format.proofs.Laid.{length-laid}
-use Rattle.gate_list.specs.Tables.{counts, input_entry, gate_entry, input_entries, gate_entries, input_table, gate_table, no_input, no_gate}
-use Rattle.gate_list.proofs.Whole.{rows_filled, all_blank}
+use Rattle.std.proofs.Common.{◌≡◌, ◌≤◌, length, sym, ap, ◌∙◌, ⊎_elim, inl, inr, arith, rules}
+use Rattle.gate_list_format.proofs.Admitted.{oversized}
+use Rattle.gate_list.specs.Tables.{counts, no_input, no_gate, input_table, gate_table}
+use Rattle.gate_list.proofs.Whole.{answered, inputs_held, gates_held}
 use Rattle.gate_list.proofs.check_list.Goals as goal
 
 pub returns-then-text-gt-MOST_BYTES : goal.returns-then-text-gt-MOST_BYTES
 returns-then-text-gt-MOST_BYTES c =
-    let over = oversized (length c.args.inputs.now) (length c.args.gates.now) c.args.text.now (inl (omega (arith, c.if-text-gt-MOST_BYTES.true))) in
-    record { answer = sym (ap counts over); inputs = sym (ap (input_table c.args.inputs.now) over); gates = sym (ap (gate_table c.args.gates.now) over) }
-
-pub returns-then-inputs-lt-INPUT_ENTRIES : goal.returns-then-inputs-lt-INPUT_ENTRIES
-returns-then-inputs-lt-INPUT_ENTRIES c =
-    let over = oversized (length c.args.inputs.now) (length c.args.gates.now) c.args.text.now (inr (inl (omega (arith, c.if-inputs-lt-INPUT_ENTRIES.true)))) in
-    record { answer = sym (ap counts over); inputs = sym (ap (input_table c.args.inputs.now) over); gates = sym (ap (gate_table c.args.gates.now) over) }
-
-pub returns-then-gates-lt-GATE_ENTRIES : goal.returns-then-gates-lt-GATE_ENTRIES
-returns-then-gates-lt-GATE_ENTRIES c =
-    let over = oversized (length c.args.inputs.now) (length c.args.gates.now) c.args.text.now (inr (inr (omega (arith, c.if-gates-lt-GATE_ENTRIES.true)))) in
-    record { answer = sym (ap counts over); inputs = sym (ap (input_table c.args.inputs.now) over); gates = sym (ap (gate_table c.args.gates.now) over) }
-
-pub returns-in-Ok : goal.returns-in-Ok
-returns-in-Ok c =
     let ins = c.args.inputs.now in
     let outs = c.args.gates.now in
-    let ok = c.in-Ok.ensures in
-    let b = ok.0 in
-    let h = ok.1 in
-    let adm = sized (length ins) (length outs) c.args.text.now (omega arith) (omega arith) (omega arith) ∙ ok.2 in
-    record {
-      answer = ap (λ m. accepted (m, c.in-Ok.r)) h.input_count ∙ ap (λ m. accepted (length b.inputs, m)) h.gate_count ∙ sym (ap counts adm);
-      inputs = c.blank_from.ensures ∙ rows_filled c.read_list.new.inputs ins (input_entries b) c.in-Ok.n no_input h.input_rows (h.input_count ∙ sym (length-laid write_input input_entry (inputs_place b) b.inputs)) (omega arith) ∙ sym (ap (input_table ins) adm);
-      gates = c.blank_from-in-Ok.ensures ∙ rows_filled c.read_list.new.gates outs (gate_entries b) c.in-Ok.r no_gate h.gate_rows (h.gate_count ∙ sym (length-laid write_gate gate_entry (gates_place b) b.gates)) (omega arith) ∙ sym (ap (gate_table outs) adm);
-    }
+    let over = oversized (length ins) (length outs) c.args.text.now (⊎_elim (λ p. inl p) (λ q. ⊎_elim (λ p. inr (inl p.1)) (λ p. inr (inr p.2)) q) c.then-text-gt-MOST_BYTES.either) in
+    record { answer = sym (ap counts over); inputs = sym (ap (input_table ins) over); gates = sym (ap (gate_table outs) over) }
 
-pub returns-in-Err : goal.returns-in-Err
-returns-in-Err c =
+pub returns : goal.returns
+returns c =
+    let text = c.args.text.now in
     let ins = c.args.inputs.now in
     let outs = c.args.gates.now in
-    let adm = sized (length ins) (length outs) c.args.text.now (omega arith) (omega arith) (omega arith) ∙ c.in-Err.ensures in
+    let new_ins = c.read_list-read.new.inputs in
+    let new_outs = c.read_list-read.new.gates in
+    let small : length text ≤ 65536 = omega arith in
+    let room : 32 ≤ length ins = omega arith in
+    let gate-room : 96 ≤ length outs = omega arith in
+    let long : length new_ins ≡ length ins = omega arith in
+    let gates-long : length new_outs ≡ length outs = omega arith in
     record {
-      answer = sym (ap counts adm);
-      inputs = c.blank_from-in-Err.ensures ∙ all_blank c.read_list.new.inputs ins no_input c.in-Err.fault (omega arith) ∙ sym (ap (input_table ins) adm);
-      gates = c.blank_from-in-Err-2.ensures ∙ all_blank c.read_list.new.gates outs no_gate c.in-Err.fault (omega arith) ∙ sym (ap (gate_table outs) adm);
+      answer = answered text ins new_ins outs new_outs small room gate-room long gates-long _ c.read_list-read.ensures;
+      inputs = c.blank_from.ensures ∙ inputs_held text ins new_ins outs new_outs small room gate-room long gates-long _ _ _ c.read_list-read.ensures c.unwrap_or-n.ensures (let e : c.default.result ≡ no_input = search rules in e);
+      gates = c.blank_from-2.ensures ∙ gates_held text ins new_ins outs new_outs small room gate-room long gates-long _ _ _ c.read_list-read.ensures c.unwrap_or-n.ensures (let e : c.default-2.result ≡ no_gate = search rules in e);
     }

@@ -1,33 +1,15 @@
-use Rattle.std.proofs.Common.{◌++◌, drop, Some, None, arith}
-use Rattle.gate_list_names.specs.Names.{input_names_in, gate_names_in}
-use Rattle.gate_list_names.proofs.Found.{source_member}
-use Rattle.gate_list_lookup.proofs.Again.{pin_is}
-use Rattle.gate_list.proofs.Known.{known_not, known_more, known_all}
+use Rattle.std.proofs.Common.{true, false, refl, arith, rules}
+use Rattle.std.proofs.lemmas.Iterator.{YieldsList-from_range, cases_from_all}
+use borrow.Author.Tests.{tests}
+use Rattle.gate_list_names.specs.Given.{all_names}
+use Rattle.gate_list.specs.Parts.{SourceKnown}
+use Rattle.gate_list.proofs.Known.{pins_known}
 use Rattle.gate_list.proofs.gate_known.Goals as goal
 
-pub returns-in-None : goal.returns-in-None
-returns-in-None c = λ g rest l e.
-    let many = c.pin_count_at-p-end.ensures g rest l e in
-    let few = c.in-None.ensures g rest l e in
-    absurd (omega arith)
-
-pub returns-in-None-find_source : goal.returns-in-None-find_source
-returns-in-None-find_source c = λ g rest l e.
-    let ins = input_names_in c.args.text.now c.args.inputs.now in
-    let outs = gate_names_in c.args.text.now c.args.gates.now in
-    let is = pin_is (drop c.args.place c.args.text.now) c.loop-p.p c.in-Some.fields g rest c.in-Some.ensures l e in
-    known_not (ins ++ outs) g.pins c.loop-p.p c.in-Some.fields.source.now is.0 is.1.0 (source_member _ ins outs None c.in-None-find_source.ensures) (c.loop-p.invariant g rest l e)
-
-pub loop-p-preserved : goal.loop-p-preserved
-loop-p-preserved c = λ g rest l e.
-    let ins = input_names_in c.args.text.now c.args.inputs.now in
-    let outs = gate_names_in c.args.text.now c.args.gates.now in
-    let is = pin_is (drop c.args.place c.args.text.now) c.loop-p.p c.in-Some.fields g rest c.in-Some.ensures l e in
-    known_more (ins ++ outs) g.pins c.loop-p.p c.in-Some.fields.source.now is.0 is.1.0 (source_member _ ins outs (Some _) c.in-Some-find_source.ensures) (c.loop-p.invariant g rest l e)
-
 pub returns : goal.returns
-returns c = λ g rest l e.
-    let ins = input_names_in c.args.text.now c.args.inputs.now in
-    let outs = gate_names_in c.args.text.now c.args.gates.now in
-    let many = c.pin_count_at-p-end.ensures g rest l e in
-    known_all (ins ++ outs) g.pins c.loop-p.p (omega arith) (c.loop-p.invariant g rest l e)
+returns c =
+    let text = c.args.names.text.now in
+    let ns = all_names c.args.names in
+    let n = c.pin_count_at.result in
+    pins_known ns text c.args.place n c.all.result c.pin_count_at.ensures
+    (cases_from_all _ _ _ (λ p. SourceKnown ns text c.args.place p true) (λ p. SourceKnown ns text c.args.place p false) c.all.ensures.ran (YieldsList-from_range 0 n n refl (omega arith)) (λ x q k. search (rules, tests)) (λ x q k. search (rules, tests)))

@@ -1,10 +1,13 @@
-use Rattle.std.proofs.Common.{drop, ◌∙◌}
+use Rattle.std.proofs.Common.{◌≡◌, ℕ, List, drop, Some, None, MatchOption, Option, ◌∙◌, rules}
+use Rattle.gate_list_lines.specs.declared.GateFields.{GateFields}
+use Rattle.gate_list_lookup.specs.Lookup.{GateAt}
 use Rattle.gate_list_lookup.proofs.Again.{gate_is}
-use Rattle.gate_list.proofs.Laying.{gate_pins_are}
+use Rattle.gate_list.specs.Parts.{PinCount}
 use Rattle.gate_list.proofs.pin_count_at.Goals as goal
 
-pub returns-in-Some : goal.returns-in-Some
-returns-in-Some c = λ g rest l e. c.pin_count.ensures ∙ gate_pins_are c.in-Some.line g (gate_is (drop c.args.place c.args.text.now) c.in-Some.line g rest c.in-Some.ensures l e)
+counted : (text : List ℕ) (place : ℕ) (o : Option GateFields) (Q : GateFields → Type 0) (r : ℕ) → GateAt (drop place text) o → MatchOption o (r ≡ 0) Q → ((fields : GateFields) → Q fields → r ≡ fields.pin_count) → PinCount text place r
+counted text place None Q r h m f g rest l e = absurd (h g rest l e)
+counted text place (Some fields) Q r h m f g rest l e = f fields m ∙ (gate_is (drop place text) fields g rest h l e).2
 
-pub returns-in-None : goal.returns-in-None
-returns-in-None c = λ g rest l e. absurd (c.in-None.ensures g rest l e)
+pub returns : goal.returns
+returns c = counted c.args.text.now c.args.place c.gate_at.result _ c.map_or.result c.gate_at.ensures c.map_or.ensures (λ fields q. search rules)

@@ -1,16 +1,10 @@
 use Rattle.std.proofs.Common.{◌+◌, [], length, Some, None, codes, sym, ap, ◌∙◌, subst, arith}
-use Rattle.std.proofs.lemmas.Result.{err_from_is_err_and}
 use Rattle.gate_list_format.specs.Slots.{accepted, refused}
 use Rattle.gate_list_format.specs.Lists.{write_heading, write_input, writes}
 use Rattle.gate_list_format.proofs.Laid.{fronts}
 use Rattle.gate_list.specs.Parts.{FirstUnknown}
 use Rattle.gate_list.proofs.Known.{names_held}
 use Rattle.gate_list.proofs.read_list.Goals as goal
-
-pub returns-in_err-n : goal.returns-in_err-n
-returns-in_err-n c =
-    let p = err_from_is_err_and c.from_residual.result c.from_residual.ensures.1 in
-    rw (p.1, p.2) c.in_err-n.ensures
 
 pub overflow_add-result-in-Some : goal.overflow_add-result-in-Some
 overflow_add-result-in-Some c =

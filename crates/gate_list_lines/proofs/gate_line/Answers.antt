@@ -1,8 +1,8 @@
-use Rattle.std.proofs.Common.{◌++◌, sym, refl, ap, ◌∙◌, arith}
+use Rattle.std.proofs.Common.{sym, refl, ap, ◌∙◌, arith}
 use Rattle.std.proofs.lemmas.Result.{err_from_is_err_and}
 use Rattle.gate_list_format.specs.Lists.{kind_of}
 use Rattle.gate_list_format.proofs.Passed.{gate₁, gate₂, gate₃, gate₄, gate₅}
-use Rattle.gate_list_names.specs.Names.{input_names_in, gate_names_in}
+use Rattle.gate_list_names.specs.Given.{all_names}
 use Rattle.gate_list_lines.proofs.Steps.{gate_written, gate_lawful, pins_short, pins_cut}
 use Rattle.gate_list_lines.proofs.gate_line.Goals as goal
 
@@ -61,7 +61,7 @@ slice_bounds-pins-count c =
 
 pub returns : goal.returns
 returns c =
-    let seen = input_names_in c.args.whole.now c.args.inputs.now ++ gate_names_in c.args.whole.now c.args.gates.now in
+    let seen = all_names c.args.names in
     let text = c.args.text.now in
     let before = c.args.before in
     let name = c.in_ok-name.name.now in

@@ -1,9 +1,7 @@
-use Rattle.std.proofs.Common.{sym, ◌∙◌}
-use Rattle.gate_list_lookup.proofs.Again.{input_not}
+use Rattle.std.proofs.Common.{drop}
+use Rattle.gate_list_names.specs.Given.{all_names}
+use Rattle.gate_list_lookup.proofs.Again.{input_lost}
 use Rattle.gate_list_lookup.proofs.input_at.Goals as goal
 
-pub returns-in-Ok : goal.returns-in-Ok
-returns-in-Ok c = let h = c.in-Ok.ensures in (h.0, _, h.2.lawful, sym c.behind.ensures ∙ h.2.written, h.1)
-
-pub returns-in-Err : goal.returns-in-Err
-returns-in-Err c = λ i rest l e. input_not c.behind.result.now _ c.in-Err.ensures i rest l (c.behind.ensures ∙ e)
+pub returns-in_err-line : goal.returns-in_err-line
+returns-in_err-line c = rw c.from_residual.ensures (input_lost (all_names c.no_names.result) (drop c.args.place c.args.text.now) c.behind.result.now c.input_line.result c.no_names.ensures c.behind.ensures c.in_err-line.ensures.value c.input_line.ensures)

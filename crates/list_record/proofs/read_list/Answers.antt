@@ -5,23 +5,23 @@ use Rattle.list_record.specs.Entering.{verdict}
 use Rattle.list_record.proofs.Checked.{checked, input_rows, gate_rows}
 use Rattle.list_record.proofs.read_list.Goals as goal
 
-pub slice_bounds-enter_list-end : goal.slice_bounds-enter_list-end
-slice_bounds-enter_list-end c =
+pub slice_bounds-names-end : goal.slice_bounds-names-end
+slice_bounds-names-end c =
     let k = checked (length c.args.inputs.now) (length c.args.gates.now) c.args.text.now c.in_ok-n.n c.in_ok-n.r c.in_ok-n.ensures.answer in
     omega (arith, k.listed.lawful.inputs, k.input_count, k.input_room)
 
-pub slice_bounds-enter_list-end-2 : goal.slice_bounds-enter_list-end-2
-slice_bounds-enter_list-end-2 c =
+pub slice_bounds-names-end-2 : goal.slice_bounds-names-end-2
+slice_bounds-names-end-2 c =
     let k = checked (length c.args.inputs.now) (length c.args.gates.now) c.args.text.now c.in_ok-n.n c.in_ok-n.r c.in_ok-n.ensures.answer in
     sym (length-take-le c.in_ok-n.n c.check_list.new.inputs (omega (arith, k.listed.lawful.inputs, k.input_count, k.input_room)))
 
-pub slice_bounds-enter_list-end-3 : goal.slice_bounds-enter_list-end-3
-slice_bounds-enter_list-end-3 c =
+pub slice_bounds-names-end-3 : goal.slice_bounds-names-end-3
+slice_bounds-names-end-3 c =
     let k = checked (length c.args.inputs.now) (length c.args.gates.now) c.args.text.now c.in_ok-n.n c.in_ok-n.r c.in_ok-n.ensures.answer in
     omega (arith, k.listed.lawful.gates, k.gate_count, k.gate_room)
 
-pub slice_bounds-enter_list-end-4 : goal.slice_bounds-enter_list-end-4
-slice_bounds-enter_list-end-4 c =
+pub slice_bounds-names-end-4 : goal.slice_bounds-names-end-4
+slice_bounds-names-end-4 c =
     let k = checked (length c.args.inputs.now) (length c.args.gates.now) c.args.text.now c.in_ok-n.n c.in_ok-n.r c.in_ok-n.ensures.answer in
     sym (length-take-le c.in_ok-n.r c.check_list.new.gates (omega (arith, k.listed.lawful.gates, k.gate_count, k.gate_room)))
 
@@ -38,7 +38,7 @@ returns c =
     let outs = gate_rows k.list c.args.gates.now c.check_list.new.gates c.in_ok-n.r _ k.is k.gate_count told.gates in
     record {
       answer = sym (ap verdict k.is);
-      board = c.enter_list.ensures k.list k.listed ins outs c.clear.ensures ∙ sym (ap board_after k.is);
+      board = c.enter_list.ensures k.list (record { listed = k.listed; inputs = ins; gates = outs }) c.clear.ensures ∙ sym (ap board_after k.is);
       inputs = told.inputs;
       gates = told.gates;
     }

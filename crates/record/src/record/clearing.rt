@@ -13,6 +13,6 @@ impl<L: GateLibrary> Record<L> {
     {
         self.tables.clear();
         self.values.clear();
-        self.standing = false;
+        self.marking.withdraw();
     }
 }

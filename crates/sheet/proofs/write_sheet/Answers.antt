@@ -1,36 +1,8 @@
-use Rattle.std.proofs.Common.{◌-◌, length, refl, arith}
-use Rattle.sheet.specs.Sheets.{sheet, Sheeted}
-use Rattle.sheet.proofs.Sheets.{sheet_length}
-use Rattle.sheet.proofs.Writes.{wrote_start}
+use Rattle.std.proofs.Common.{◌≡◌, length, take, codes, refl, ap, sym, ap₂, ◌∙◌, arith}
+use Rattle.sheet.specs.Sheets.{section}
+use Rattle.sheet.proofs.Writes.{three_long, three_written}
+use Rattle.sheet.proofs.Sheets.{gates_part, wires_part}
 use Rattle.sheet.proofs.write_sheet.Goals as goal
-
-pub returns-then-buffer-size : goal.returns-then-buffer-size
-returns-then-buffer-size c = (
-  (λ s.
-      let n = c.args.inputs in
-      let r = c.args.gates in
-      let fs = c.args.firsts.now in
-      let e = s.enough in
-      let all = sheet_length n r (length fs - n - r) fs c.args.seconds.now s (omega arith) in
-      let a = c.digits.ensures.value in
-      let b = c.digits-2.ensures.value in
-      let d = c.digits-3.ensures.value in
-      omega arith),
-  refl,
-)
-
-pub put_sheet-requires : goal.put_sheet-requires
-put_sheet-requires c =
-    let n = c.args.inputs in
-    let r = c.args.gates in
-    let fs = c.args.firsts.now in
-    let ss = c.args.seconds.now in
-    let s : Sheeted n r fs ss = record { enough = omega arith; level = omega arith; few = omega arith } in
-    let all = sheet_length n r (length fs - n - r) fs ss s (omega arith) in
-    let a = c.digits.ensures.value in
-    let b = c.digits-2.ensures.value in
-    let d = c.digits-3.ensures.value in
-    record { sheeted = s; room = omega arith }
 
 pub returns : goal.returns
 returns c =
@@ -38,10 +10,13 @@ returns c =
     let r = c.args.gates in
     let fs = c.args.firsts.now in
     let ss = c.args.seconds.now in
-    let s : Sheeted n r fs ss = record { enough = omega arith; level = omega arith; few = omega arith } in
-    let all = sheet_length n r (length fs - n - r) fs ss s (omega arith) in
-    let a = c.digits.ensures.value in
-    let b = c.digits-2.ensures.value in
-    let d = c.digits-3.ensures.value in
-    let end = c.put_sheet.ensures.end in
-    (s, end, omega arith, wrote_start c.args.buffer.now _ (sheet n r fs ss) c.put_sheet.ensures.wrote)
+    let first : c.new-input_part.result ≡ section (codes "inputs ") (take n fs) (take n ss) = c.new-input_part.ensures in
+    let second = c.new-gate_part.ensures ∙ ap₂ (section (codes "gates ")) (gates_part n r fs) (gates_part n r ss) in
+    let third = c.new-wire_part.ensures ∙ ap₂ (section (codes "wires ")) (wires_part n r (length fs) fs refl) (wires_part n r (length ss) ss refl) in (
+      record { enough = omega arith; level = omega arith; few = omega arith },
+      three_long _ _ _ _ _ _ c.len.result c.len-2.result c.len-3.result first second third c.len.ensures.value c.len-2.ensures.value c.len-3.ensures.value,
+      omega arith,
+      three_written c.args.buffer.now c.split_at_mut-page.result.1.now c.split_at_mut-page-2.result.1.now _ _ _ _ _ _ c.len-4.result c.len-5.result c.len-6.result (c.write.ensures ∙ first) (c.write-2.ensures ∙ second) (c.write-3.ensures ∙ third)
+          (c.len-4.ensures.value ∙ ap length (sym c.write.ensures)) (c.len-5.ensures.value ∙ ap length (sym c.write-2.ensures)) (c.len-6.ensures.value ∙ ap length (sym c.write-3.ensures))
+          c.split_at_mut-page.ensures.back c.split_at_mut-page-2.ensures.back,
+    )

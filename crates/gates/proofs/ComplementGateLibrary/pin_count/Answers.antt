@@ -1,11 +1,11 @@
 use Rattle.std.proofs.Common.{sym, ap, ◌∙◌}
 use Rattle.std.specs.Option.{option_map}
 use Rattle.gates.specs.Kinds.{Kind}
-use Rattle.gates.specs.Paired.{past, pins_half}
+use Rattle.gates.specs.Paired.{pins_turned}
 use Rattle.gates.proofs.ComplementGateLibrary.pin_count.Goals as goal
 
-pub returns-then-kind-ge4096 : goal.returns-then-kind-ge4096
-returns-then-kind-ge4096 g c = sym (ap (option_map (λ (d : Kind). d.pins)) (past _ _ c.if-kind-ge4096.true))
+pub returns-in_err-below : goal.returns-in_err-below
+returns-in_err-below g c = c.from_residual.ensures ∙ sym (ap (option_map (λ (d : Kind). d.pins)) (c.in_err-below.ensures _))
 
 pub returns : goal.returns
-returns g c = c.pin_count.ensures ∙ sym (pins_half _ _ c.if-kind-ge4096.false)
+returns g c = c.pin_count.ensures ∙ sym (ap (option_map (λ (d : Kind). d.pins)) (c.in_ok-below.ensures _) ∙ pins_turned _ _)

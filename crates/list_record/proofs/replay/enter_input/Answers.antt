@@ -1,14 +1,13 @@
-use Rattle.std.proofs.Common.{refl}
-use Rattle.circuit.specs.declared.Signal.TheVariants as signal
-use Rattle.record.specs.Calls.{add_input_stop, input_added, set_input_stop, input_set, set_signal_stop, signal_set}
-use Rattle.list_record.proofs.Calls.{called}
+use Rattle.std.proofs.Common.{drop, subst, rules}
+use Rattle.gate_list_lookup.proofs.Again.{input_is}
+use Rattle.list_record.specs.Entering.{list_board}
+use Rattle.list_record.specs.Replay.{InputEntered}
 use Rattle.list_record.proofs.replay.enter_input.Goals as goal
 
 pub returns : goal.returns
-returns c = λ e₁ e₂ e₃.
-    let n = c.args.number in
-    called (λ t. set_signal_stop t (signal.Input n) c.args.start) (λ t. signal_set t (signal.Input n) c.args.start) _ _ _
-    (called (λ t. set_input_stop t n c.args.applied) (λ t. input_set t n c.args.applied) _ _ _
-    (called add_input_stop input_added _ _ _ refl c.add_input.ensures.after e₁)
-    c.set_input.ensures.after e₂)
-    c.set_signal.ensures.after e₃
+returns c = λ i rest l e.
+    let old = list_board c.args.board.now in
+    let new = list_board c.set_signal.new.self in
+    let is = input_is (drop c.args.place c.args.text.now) c.in-Some.fields i rest c.in-Some.ensures l e in
+    subst (λ s. InputEntered old c.args.number i.applied s new) is.2
+    (subst (λ a. InputEntered old c.args.number a c.in-Some.fields.start new) is.1 (search rules))

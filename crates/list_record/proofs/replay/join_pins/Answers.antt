@@ -1,43 +1,25 @@
-use Rattle.std.proofs.Common.{◌≡◌, ◌+◌, ◌<◌, length, ap, ◌∙◌, arith, rules}
-use Rattle.std.proofs.ByRecursion.{All-get_or}
-use Rattle.gate_list_format.specs.Lists.{LawfulGate, write_gate}
-use Rattle.gate_list_format.specs.Places.{gates_place}
-use Rattle.gate_list_format.proofs.Laid.{length-laid}
+use Rattle.std.proofs.Common.{◌≡◌, ◌+◌, ◌<◌, length, drop, ap, ◌∙◌, arith}
+use Rattle.gate_list_lookup.proofs.Again.{gate_is}
 use Rattle.gate_list.specs.Laws.{gate_number}
-use Rattle.gate_list.specs.Tables.{gate_entry}
 use Rattle.list_record.specs.Replay.{pins_joined, pins_before}
-use Rattle.list_record.proofs.Lines.{gate_stands}
 use Rattle.list_record.proofs.replay.join_pins.Goals as goal
 
-pub loop-p-preserved : goal.loop-p-preserved
-loop-p-preserved c = λ b listed ins same first start.
-    let gate = c.args.gate in
-    let long = ap length same ∙ length-laid write_gate gate_entry (gates_place b) b.gates in
-    let here : gate < length b.gates = omega (arith, long, c.requires.there) in
-    let at = gate_stands b c.args.text.now c.args.gates.now gate _ listed.written same here in
-    let law = All-get_or LawfulGate b.gates gate _ here listed.lawful.each_gate in
-    let fields = c.gate_fields-pins.ensures (gate_number b gate) at.0 law at.1 in
-    let within : c.loop-p.p < length (gate_number b gate).pins = omega (arith, fields.1, c.loop-p-test.true) in
-    c.join_pin.ensures b listed ins same within (ap (λ n. n + c.loop-p.p) first) (c.loop-p.invariant b listed ins same first start)
+pub loop-pin-preserved : goal.loop-pin-preserved
+loop-pin-preserved c = λ b lists at first start.
+    let g = gate_number b c.args.gate in
+    let is = gate_is (drop c.args.place c.args.names.text.now) c.in-Some.fields g at.1 c.in-Some.ensures at.2 at.3 in
+    let within : c.loop-pin.pin < length g.pins = omega (arith, is.2, c.from-pins.ensures, c.loop-pin-test.true) in
+    c.join_pin.ensures b lists at within (ap (λ n. n + c.loop-pin.pin) first) (c.loop-pin.invariant b lists at first start)
 
-pub returns : goal.returns
-returns c = record {
-  few = search rules;
-  next = λ b listed same.
-      let gate = c.args.gate in
-      let long = ap length same ∙ length-laid write_gate gate_entry (gates_place b) b.gates in
-      let here : gate < length b.gates = omega (arith, long, c.requires.there) in
-      let at = gate_stands b c.args.text.now c.args.gates.now gate _ listed.written same here in
-      let law = All-get_or LawfulGate b.gates gate _ here listed.lawful.each_gate in
-      let fields = c.gate_fields-pins.ensures (gate_number b gate) at.0 law at.1 in
-      ap (λ n. c.args.first + n) fields.1;
-  after = λ b listed ins same first start.
-      let gate = c.args.gate in
-      let long = ap length same ∙ length-laid write_gate gate_entry (gates_place b) b.gates in
-      let here : gate < length b.gates = omega (arith, long, c.requires.there) in
-      let at = gate_stands b c.args.text.now c.args.gates.now gate _ listed.written same here in
-      let law = All-get_or LawfulGate b.gates gate _ here listed.lawful.each_gate in
-      let fields = c.gate_fields-pins.ensures (gate_number b gate) at.0 law at.1 in
-      let done : c.loop-p.p ≡ length (gate_number b gate).pins = omega (arith, fields.1, c.loop-p-test.false) in
-      c.loop-p.invariant b listed ins same first start ∙ ap (λ n. pins_joined b (pins_before b gate n)) done;
-}
+pub returns-clause-next : goal.returns-clause-next
+returns-clause-next c = λ b at.
+    let g = gate_number b c.args.gate in
+    let is = gate_is (drop c.args.place c.args.names.text.now) c.in-Some.fields g at.1 c.in-Some.ensures at.2 at.3 in
+    ap (λ n. c.args.first + n) (c.from-pins.ensures ∙ is.2)
+
+pub returns-clause-after : goal.returns-clause-after
+returns-clause-after c = λ b lists at first start.
+    let g = gate_number b c.args.gate in
+    let is = gate_is (drop c.args.place c.args.names.text.now) c.in-Some.fields g at.1 c.in-Some.ensures at.2 at.3 in
+    let done : c.loop-pin.pin ≡ length g.pins = omega (arith, is.2, c.from-pins.ensures, c.loop-pin-test.false) in
+    c.loop-pin.invariant b lists at first start ∙ ap (λ n. pins_joined b (pins_before b c.args.gate n)) done

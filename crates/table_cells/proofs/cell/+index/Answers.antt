@@ -1,24 +1,10 @@
-use Rattle.std.proofs.Common.{true, false, sym, ap, arith}
-use Rattle.std.proofs.lemmas.List.{nil_from_length}
-use Rattle.std.proofs.lemmas.Bool.{ltb-true, ltb-false}
+use Rattle.std.proofs.Common.{◌≡◌, ◌+◌, ◌*◌, arith}
+use Rattle.std.proofs.lemmas.Grind.{common_steps}
 use Rattle.table_cells.specs.Cells.{index_of}
-use Rattle.table_cells.proofs.Indices.{index_six, index_first}
+use Rattle.table_cells.proofs.Indices.{index_six}
 use Rattle.table_cells.proofs.cell.+index.Goals as goal
 
-pub returns-in-empty : goal.returns-in-empty
-returns-in-empty t c =
-    record { value = sym (ap index_of (nil_from_length c.args.bits.now (omega (arith, ltb-true)))); bound = omega arith }
-
-pub returns-then-bit : goal.returns-then-bit
-returns-then-bit t c =
-    let bits = c.args.bits.now in
-    let small = index_six bits c.requires in
-    let whole = index_first bits true (omega (arith, ltb-false)) c.if-bit.true in
-    record { value = omega arith; bound = omega arith }
-
-pub returns-else-bit : goal.returns-else-bit
-returns-else-bit t c =
-    let bits = c.args.bits.now in
-    let small = index_six bits c.requires in
-    let whole = index_first bits false (omega (arith, ltb-false)) c.if-bit.false in
-    record { value = omega arith; bound = omega arith }
+pub returns-in-len1-up-clause-bound : goal.returns-in-len1-up-clause-bound
+returns-in-len1-up-clause-bound t c =
+    let value : 2 * c.index.result + c.from.result ≡ index_of c.args.bits.now = grind (arith, common_steps) in
+    omega (arith, index_six c.args.bits.now c.requires)

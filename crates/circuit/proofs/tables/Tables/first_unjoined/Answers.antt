@@ -1,38 +1,33 @@
-use Rattle.std.proofs.Common.{vec_items, sym, ◌∙◌, arith}
-use Rattle.circuit.proofs.Wired.{fits}
-use Rattle.circuit.proofs.Unjoined.{pin_passed, pin_stopped, gate_passed, gate_stopped, gates_none}
+use Rattle.std.proofs.Common.{length, ap, ◌∙◌, arith}
+use Rattle.circuit.specs.Circuits.{Circuit}
+use Rattle.circuit.specs.Views.{circuit_of}
+use Rattle.circuit.proofs.Wired.{fits_read}
+use Rattle.circuit.proofs.Unjoined.{part_read, gate_passed}
 use Rattle.circuit.proofs.tables.Tables.first_unjoined.Goals as goal
 
-pub overflow_add-gate : goal.overflow_add-gate
-overflow_add-gate c =
-    let t = c.args.self.now in
-    omega (arith, fits (vec_items t.gates) _ _ _ t.numbered (omega arith) c.index-gate.ensures)
+pub overflow_add-sources : goal.overflow_add-sources
+overflow_add-sources c =
+    let t = circuit_of c.self.inside in
+    let kept = c.self.invariant.kept in
+    omega (arith, kept.few.2, fits_read t.gates _ _ c.loop-number.number c.deref-gate-items.ensures.value kept.wired.numbered (omega arith))
 
-pub index-requires : goal.index-requires
-index-requires c =
-    let t = c.args.self.now in
-    omega (arith, fits (vec_items t.gates) _ _ _ t.numbered (omega arith) c.index-gate.ensures)
+pub offset_bounds-deref-gate : goal.offset_bounds-deref-gate
+offset_bounds-deref-gate c =
+    let t = circuit_of c.self.inside in
+    let kept = c.self.invariant.kept in
+    omega (arith, kept.few.2, fits_read t.gates _ _ c.loop-number.number c.deref-gate-items.ensures.value kept.wired.numbered (omega arith))
 
-pub loop-pin-preserved : goal.loop-pin-preserved
-loop-pin-preserved c =
-    let t = c.args.self.now in
-    pin_passed (vec_items t.gates) (vec_items t.sources) t.numbered c.loop-number.number _ (omega arith) c.index-gate.ensures c.loop-pin.pin _ c.loop-pin-test.true c.index.ensures c.if-is_none.ensures
-    ∙ c.loop-pin.invariant
+pub slice_bounds-sources-end : goal.slice_bounds-sources-end
+slice_bounds-sources-end c =
+    let t = circuit_of c.self.inside in
+    let kept = c.self.invariant.kept in
+    omega (arith, ap length c.deref.ensures.value, fits_read t.gates _ _ c.loop-number.number c.deref-gate-items.ensures.value kept.wired.numbered (omega arith))
 
 pub loop-number-preserved : goal.loop-number-preserved
 loop-number-preserved c =
-    let t = c.args.self.now in
-    gate_passed (vec_items t.gates) (vec_items t.sources) t.numbered c.loop-number.number _ (omega arith) c.index-gate.ensures c.loop-pin.pin c.loop-pin-test.false c.loop-pin.invariant
+    let circuit = c.args.self.now in
+    let gates = c.deref-gate-items.ensures.value ∙ ap (λ (x : Circuit). x.gates) c.self.view_is in
+    let sources = c.deref.ensures.value ∙ ap (λ (x : Circuit). x.sources) c.self.view_is in
+    gate_passed circuit.gates circuit.sources c.loop-number.number (omega (arith, ap length gates)) _
+    (part_read circuit.gates _ circuit.sources _ c.loop-number.number gates sources) c.loop-pin.pin c.loop-pin-test.false c.loop-pin.invariant
     ∙ c.loop-number.invariant
-
-pub returns-then-is_none : goal.returns-then-is_none
-returns-then-is_none c =
-    let t = c.args.self.now in
-    let found = pin_stopped (vec_items t.gates) (vec_items t.sources) t.numbered c.loop-number.number _ (omega arith) c.index-gate.ensures c.loop-pin.pin _ c.loop-pin-test.true c.index.ensures c.if-is_none.ensures in
-    sym (gate_stopped (vec_items t.gates) (vec_items t.sources) t.numbered c.loop-number.number _ (omega arith) c.index-gate.ensures c.loop-pin.pin (sym c.loop-pin.invariant ∙ found))
-    ∙ c.loop-number.invariant
-
-pub returns-after-loop-number : goal.returns-after-loop-number
-returns-after-loop-number c =
-    let t = c.args.self.now in
-    sym (gates_none (vec_items t.gates) (vec_items t.sources) c.loop-number.number (omega arith)) ∙ c.loop-number.invariant
