@@ -7,7 +7,7 @@ ghost use Rattle.gate_list.specs.Refusals.{refusal_number, refusal_line};
 ghost use Rattle.list_record.specs.Entering.{list_board};
 ghost use Rattle.bench_answer.specs.BenchBytes.{BenchBytes, SheetAfterRun, refusal_text};
 
-use gate_list::Refusal;
+use gate_list::{GATE_ENTRIES, INPUT_ENTRIES, Refusal};
 use gate_list_names::{GateEntry, InputEntry};
 use gates::Complement;
 use list_record::{ListRecord, read_list};
@@ -20,8 +20,8 @@ pub fn bench(heap: Global, text: &[u8]) -> Result<Vec<u8>, AllocError>
     ensures { IfOk result (λ bytes. BenchBytes text.now bytes.items) }
 {
     let mut board = ListRecord::open(heap, Complement { below: PlainGates })?;
-    let mut inputs = [InputEntry::default(); 32];
-    let mut gates = [GateEntry::default(); 96];
+    let mut inputs = [InputEntry::default(); INPUT_ENTRIES];
+    let mut gates = [GateEntry::default(); GATE_ENTRIES];
     match read_list(&mut board, text, &mut inputs[..], &mut gates[..]) {
         Ok(()) => sheet_bytes(heap, &mut board),
         Err(refusal) => refusal_bytes(heap, refusal),
@@ -34,6 +34,7 @@ fn sheet_bytes(heap: Global, board: &mut ListRecord) -> Result<Vec<u8>, AllocErr
     ensures { IfOk result (λ bytes. SheetAfterRun (list_board board.old) bytes.items) }
 {
     let Ok(_) = board.run() else { unreachable() };
+    // The record writes into the caller's buffer and takes no memory; only the sheet's own bytes do.
     let mut buffer = [0u8; LONGEST];
     let Ok(length) = board.sheet(&mut buffer[..]) else {
         unreachable()

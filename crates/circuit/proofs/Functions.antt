@@ -1,24 +1,14 @@
 -- What a library answers for marks is the exact extension of what it answers for bits.
-use Rattle.std.proofs.Common.{◌≡◌, ℕ, suc, Bool, true, false, List, [], ◌∷◌, length, Some, None, Option, unwrap_or, sym, refl, ap, ◌∙◌, ap₂}
+use Rattle.std.proofs.Common.{◌≡◌, ℕ, Bool, false, List, [], ◌∷◌, length, Some, None, Option, unwrap_or, sym, refl, ap, ◌∙◌, ap₂}
 use native.Mathlib.Decide.{ℕ_discrete}
 use Rattle.std.specs.List.{slice_get}
 use Rattle.std.proofs.lemmas.Bool.{eq-eqb, ne_eqb, cond-true, cond-false}
 use Rattle.gates.specs.declared.Mark.{Mark}
 use Rattle.gates.specs.declared.Mark.TheVariants.{Zero, One, Unknown}
-use Rattle.gates.specs.Marks.{settled, lub, extended}
+use Rattle.gates.specs.Marks.{lub, extended}
 use Rattle.gates.specs.Kinds.{Kind, given_by, extension_of}
-use Rattle.gates.proofs.Folds.{extended_zero, extended_one, extended_unknown}
+use Rattle.gates.proofs.Folds.{extended_zero, extended_one, extended_unknown, extended_same}
 use Rattle.circuit.specs.Circuits.{gate_function}
-
--- a function matters only at the bit lists that are as long as the marks
-pub extended_same : (f h : List Bool → Bool) (ms : List Mark) → ((bits : List Bool) → length bits ≡ length ms → f bits ≡ h bits) → extended f ms ≡ extended h ms
-extended_same f h [] e = ap settled (e [] refl)
-extended_same f h (Zero ∷ ms) e = extended_zero f ms ∙ extended_same (λ bits. f (false ∷ bits)) (λ bits. h (false ∷ bits)) ms (λ bits l. e (false ∷ bits) (ap suc l)) ∙ sym (extended_zero h ms)
-extended_same f h (One ∷ ms) e = extended_one f ms ∙ extended_same (λ bits. f (true ∷ bits)) (λ bits. h (true ∷ bits)) ms (λ bits l. e (true ∷ bits) (ap suc l)) ∙ sym (extended_one h ms)
-extended_same f h (Unknown ∷ ms) e =
-    extended_unknown f ms
-    ∙ ap₂ lub (extended_same (λ bits. f (false ∷ bits)) (λ bits. h (false ∷ bits)) ms (λ bits l. e (false ∷ bits) (ap suc l))) (extended_same (λ bits. f (true ∷ bits)) (λ bits. h (true ∷ bits)) ms (λ bits l. e (true ∷ bits) (ap suc l)))
-    ∙ sym (extended_unknown h ms)
 
 extended_false : (ms : List Mark) → extended (λ bits. false) ms ≡ Zero
 extended_false [] = refl

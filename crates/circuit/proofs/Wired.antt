@@ -1,7 +1,7 @@
 -- The wiring of a circuit, as tables grow and pins are joined.
-use Rattle.std.proofs.Common.{◌≡◌, ℕ, zero, suc, ◌+◌, ◌-◌, ◌<◌, ◌≤◌, true, cond, List, [], ◌∷◌, ◌++◌, length, get_or, take, replicate, Some, None, Option, Result, is_ok, sym, refl, ap, ◌∙◌, subst, ⊎_elim, arith}
+use Rattle.std.proofs.Common.{◌≡◌, ℕ, zero, suc, ◌+◌, ◌<◌, ◌≤◌, true, cond, List, [], ◌∷◌, ◌++◌, length, get_or, take, replicate, Some, None, Option, Result, is_ok, sym, refl, ap, ◌∙◌, subst, ⊎_elim, arith}
 use Rattle.std.proofs.lemmas.Bool.{cases_lt, cond-true}
-use Rattle.std.proofs.lemmas.List.{get_or_read, get_or_append_left, get_or_push, length_push, length-append, length-replicate, take-append-le, take_all, take_at}
+use Rattle.std.proofs.lemmas.List.{get_or_read, get_or_append_left, get_or_push, length_push, length-append, length-replicate, take-append-le, take_at}
 use Rattle.circuit.specs.declared.Gate.{Gate}
 use Rattle.circuit.specs.declared.Source.{Source}
 use Rattle.circuit.specs.declared.Source.TheVariants as source
@@ -58,15 +58,6 @@ numbered_push gates grown x sources more e m first n =
     let long : length more ≡ length sources + x.pins = ap length m ∙ length-append sources (replicate x.pins None) ∙ ap (λ k. length sources + k) (length-replicate x.pins None) in
     subst (λ (gs : List Gate). Numbered gs (length more)) (sym e) (subst (λ k. Numbered (gates ++ x ∷ []) k) (sym long) (numbered_new gates x (length sources) n first))
 
--- what a list of reserved length is made by `resize`
-resized : {X E : Type 0} (total len n : ℕ) (xs grown : List X) (x : X) (r : Result (Unit {0}) E) → total ≡ length xs + n → len ≡ length xs → is_ok r ≡ true
-    → grown ≡ cond (is_ok r) (take total xs ++ replicate (total - len) x) xs → grown ≡ xs ++ replicate n x
-resized total len n xs grown x r t l ok e =
-    e
-    ∙ cond-true _ _ _ ok
-    ∙ ap (λ ys. ys ++ replicate (total - len) x) (take_all total xs (omega arith))
-    ∙ ap (λ k. xs ++ replicate k x) (omega arith)
-
 getD_nones : (n w : ℕ) → get_or {A = Option Source} (replicate n None) w None ≡ None
 getD_nones zero w = refl
 getD_nones (suc n) zero = refl
@@ -93,14 +84,13 @@ pub sourced_at : (c : Circuit) (w : ℕ) (s : Source) → Sourced (length c.appl
 sourced_at c w (source.Input i) h e = h.0 w i e
 sourced_at c w (source.Gate g) h e = h.1 w g e
 
--- what tables keep, as a gate comes in whose wires `resize` added
-pub kept_gate : {E : Type 0} (c : Circuit) (gates : List Gate) (sources : List (Option Source)) (x : Gate) (total len : ℕ) (r : Result (Unit {0}) E)
-    → gates ≡ c.gates ++ x ∷ [] → total ≡ length c.sources + x.pins → len ≡ length c.sources → is_ok r ≡ true
-    → sources ≡ cond (is_ok r) (take total c.sources ++ replicate (total - len) None) c.sources → x.first ≡ length c.sources
+-- what tables keep, as a gate comes in with its wires
+pub kept_gate : {E : Type 0} (c : Circuit) (gates : List Gate) (sources : List (Option Source)) (x : Gate) (r : Result (Unit {0}) E)
+    → gates ≡ c.gates ++ x ∷ [] → is_ok r ≡ true → sources ≡ cond (is_ok r) (c.sources ++ replicate x.pins None) c.sources → x.first ≡ length c.sources
     → length c.gates < 96 → length c.sources + x.pins ≤ 384 → Kept c → Kept (record { applied = c.applied; gates = gates; sources = sources })
-kept_gate c gates sources x total len r e t l ok e' first low fit k =
+kept_gate c gates sources x r e ok e' first low fit k =
     let few = k.few in
-    let grown = resized total len x.pins c.sources sources None r t l ok e' in
+    let grown = e' ∙ cond-true _ _ _ ok in
     record {
       few = (few.0, omega (arith, ap length e, length_push c.gates x), omega (arith, ap length grown, length-append c.sources (replicate x.pins None), length-replicate {A = Option Source} x.pins None));
       wired = record {

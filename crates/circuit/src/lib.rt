@@ -6,6 +6,7 @@ ghost use Rattle.circuit.specs.Circuits.{tapped};
 
 pub mod level;
 pub mod passes;
+pub mod reserved;
 pub mod tables;
 
 /// A gate: its kind in the library, and its wires, one for each pin, from `first` on.

@@ -79,6 +79,7 @@ struct Network<'a, L> {
 
 impl<'a, L: GateLibrary> Network<'a, L> {
     // Both passes from the marks in `first`: the step counts.
+    // Each of these functions asks for the length of its lists: they are lent anew at every call, in another order.
     fn both_passes(
         &self,
         first: &mut [Mark],

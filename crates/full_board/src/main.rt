@@ -8,6 +8,7 @@ use record::Refusal;
 use record::record::Record;
 use std::env;
 
+// Spelled out: the one crate with a name for this type is the gate list reader's.
 type Board = Record<Complement<PlainGates>>;
 
 // Kinds of the complementing layer over plain gates, by their numbers in the library's list.

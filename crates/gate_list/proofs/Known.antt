@@ -1,6 +1,6 @@
 -- Looking for the sources of pins.
 use Rattle.std.proofs.Common.{◌≡◌, ℕ, zero, suc, ◌+◌, ◌<◌, Bool, true, false, ◌&&◌, List, [], ◌∷◌, ◌++◌, length, get_or, take, drop, codes, Some, None, MatchBool, MatchOption, Option, sym, refl, ap, ◌∙◌, subst, zero-add, arith}
-use Rattle.std.specs.List.{AllWithin, HoldsAt, range_with_len}
+use Rattle.std.specs.List.{AllByRecursion, AllWithin, HoldsAt, range_with_len}
 use Rattle.std.proofs.ByRecursion.{All-get_or}
 use Rattle.std.proofs.lemmas.List.{get_or_append_left}
 use Rattle.std.proofs.lemmas.List.FromFn.{length-range_with_len, get_or-range_with_len}
@@ -101,11 +101,17 @@ entries_name b =
       laid_names write_gate (λ g. g.name) gate_entry (λ (x : GateEntry). x.place) (λ (x : GateEntry). x.length) (λ p x. refl) (λ p x. refl) gate_onto gate_first (written b) front₂ (gates_place b) b.gates [] (fronts b).1 refl,
     )
 
-pub names_held : (text : List ℕ) (inputs : List InputEntry) (gates : List GateEntry) (n r : ℕ) (b : GateList) → Held text inputs gates n r b → input_names_in text (take n inputs) ++ gate_names_in text (take r gates) ≡ names b
+names_held : (text : List ℕ) (inputs : List InputEntry) (gates : List GateEntry) (n r : ℕ) (b : GateList) → Held text inputs gates n r b → input_names_in text (take n inputs) ++ gate_names_in text (take r gates) ≡ names b
 names_held text inputs gates n r b h =
     let ins : input_names_in text (take n inputs) ≡ input_names b.inputs = ap (input_names_in text) h.input_rows ∙ ap (λ t. input_names_in t (input_entries b)) h.written ∙ (entries_name b).0 in
     let outs : gate_names_in text (take r gates) ≡ gate_names b.gates = ap (gate_names_in text) h.gate_rows ∙ ap (λ t. gate_names_in t (gate_entries b)) h.written ∙ (entries_name b).1 in
     ap (λ t. t ++ gate_names_in text (take r gates)) ins ∙ ap (λ t. input_names b.inputs ++ t) outs
+
+-- what a look at the sources says of the list that the tables hold
+pub sources_held : (text : List ℕ) (inputs : List InputEntry) (gates : List GateEntry) (n r : ℕ) (b : GateList) (k : Option ℕ) → Held text inputs gates n r b → ((gs : List Gate) (front : List ℕ) → AllByRecursion LawfulGate gs → text ≡ front ++ writes write_gate gs [] → take r gates ≡ laid write_gate gate_entry (length front) gs → FirstUnknown (input_names_in text (take n inputs) ++ gate_names_in text (take r gates)) gs k) → FirstUnknown (names b) b.gates k
+sources_held text inputs gates n r b k h look =
+    let front = write_heading (codes "inputs") (length b.inputs) (writes write_input b.inputs (write_heading (codes "gates") (length b.gates) [])) in
+    subst (λ ns. FirstUnknown ns b.gates k) (names_held text inputs gates n r b h) (look b.gates front h.lawful (h.written ∙ (fronts b).1) h.gate_rows)
 
 pub entries_stand : EntriesStand
 entries_stand b inputs gates =

@@ -5,7 +5,7 @@ use Rattle.std.proofs.lemmas.Bool.{cond-false, ne_eqb}
 use Rattle.std.specs.Result.{result_unwrap_or}
 use Rattle.gate_list_format.specs.Slots.{Form, ends, read, Outcome, accepted, refused}
 use Rattle.gate_list_format.specs.Lists.{GateList, Input, Gate, input_names, write_heading, write_input, write_gate, writes, written}
-use Rattle.gate_list_format.specs.Reading.{heading_form, input_forms, gate_forms, answer, list_form, reading, admitted}
+use Rattle.gate_list_format.specs.Reading.{heading_form, input_forms, list_form, reading, admitted}
 use Rattle.gate_list_format.specs.Places.{laid, inputs_place, gates_place}
 use Rattle.gate_list_format.proofs.Admitted.{sized}
 use Rattle.gate_list_format.proofs.Laid.{heading_onto, input_onto, fronts, length-laid}
@@ -15,23 +15,14 @@ use Rattle.gate_list_fields.specs.Faults.{number_of}
 use Rattle.gate_list_lines.specs.Lines.{HeadingIs, HeadingRead}
 use Rattle.gate_list_names.specs.declared.InputEntry.{InputEntry}
 use Rattle.gate_list_names.specs.declared.GateEntry.{GateEntry}
-use Rattle.gate_list.specs.Tables.{told, counts, input_entry, gate_entry, input_entries, gate_entries, no_input, no_gate, filled, input_table, gate_table}
+use Rattle.gate_list.specs.Tables.{told, counts, input_entry, gate_entry, input_entries, gate_entries, no_input, no_gate, filled, table, input_table, gate_table}
 use Rattle.gate_list_names.specs.Names.{input_names_in}
 use Rattle.gate_list.specs.declared.Refusal.{Refusal}
 use Rattle.gate_list.specs.declared.Refusal.TheVariants.{Size, At}
 use Rattle.gate_list.specs.Refusals.{tied, RefusedAt}
-use Rattle.gate_list.specs.Parts.{Rest, InputsAre, InputsRead, GatesAre, GatesRead, Held, ListRead}
+use Rattle.gate_list.specs.Parts.{Rest, list₂, list₃, list₄, InputsAre, InputsRead, InputsIn, GatesAre, GatesRead, GatesIn, Held, ListRead}
 use Rattle.gate_list.proofs.Tied.{read_so}
 use Rattle.gate_list.proofs.Laying.{rest_trans, rest_writes, inputs_named}
-
-abbrev pub list₄ : List Input → List Gate → Form GateList
-list₄ is gs = ends (answer (record { inputs = is; gates = gs }))
-
-abbrev pub list₃ : List Input → ℕ → Form GateList
-list₃ is r = gate_forms r is [] (list₄ is)
-
-abbrev pub list₂ : List Input → Form GateList
-list₂ is = heading_form (codes "gates") 96 (list₃ is)
 
 abbrev pub list₁ : ℕ → Form GateList
 list₁ n = input_forms n [] list₂
@@ -81,20 +72,6 @@ held text rest₀ rest₁ rest₂ rest₃ is gs n r inputs gates h₁ ins h₂ o
 pub heading_so : (word : List ℕ) (most : ℕ) (text : List ℕ) (line : ℕ) (r : Result (ℕ × Bor (List ℕ)) Fault) (n m : ℕ) (rest : Bor (List ℕ)) → Ok (n, rest) ≡ tied line r → HeadingRead word most text r → m ≡ n → HeadingIs word most text m rest.now
 heading_so word most text line r n m rest e h q = subst (λ k. HeadingIs word most text k rest.now) (sym q) (read_so (HeadingRead word most text) line r (n, rest) e h)
 
--- the text begins with the inputs' heading and so many input lines, and the table's first entries are theirs
-pub record InputsIn (text : List ℕ) (n : ℕ) (inputs : List InputEntry) (rest : List ℕ) : Type 0 where
-  pub list : List Input
-  pub body : List ℕ
-  pub heading : HeadingIs (codes "inputs") 32 text n body
-  pub lines : InputsAre n text body inputs list rest
-  pub reads : reading text ≡ read (list₂ list) (2 + n) rest
-
--- and with the gates' heading and so many gate lines
-pub record GatesIn (text : List ℕ) (n r : ℕ) (inputs : List InputEntry) (gates : List GateEntry) (rest : List ℕ) : Type 0 where
-  pub list : GateList
-  pub holds : length rest ≡ 0 → Held text inputs gates n r list
-  pub reads : reading text ≡ read (ends (answer list)) (n + 3 + r) rest
-
 -- the inputs' lines, whose entries go to the front of the table
 module _ (text : List ℕ) (body : List ℕ) (n : ℕ) (old table : List InputEntry) (h : HeadingIs (codes "inputs") 32 text n body) (room : 32 ≤ length old) (long : length table ≡ length (take n old)) where
   inputs_front : length (take n old) ≡ n
@@ -133,6 +110,7 @@ module _ (text rest₁ body : List ℕ) (n r : ℕ) (inputs : List InputEntry) (
       let outs = subst (λ m. GatesRead m (n + 3) text body (take n inputs) table (Ok rest)) gates_front read in
       record {
         list = record { inputs = i.list; gates = outs.0 };
+        few = h.few;
         holds = held text i.body rest₁ body rest.now i.list outs.0 n r inputs (table ++ drop r old) i.heading i.lines h (record { long = outs.1.long; lawful = outs.1.lawful; written = outs.1.written; entries = take-append-le r table (drop r old) (omega (arith, long, gates_front)) ∙ outs.1.entries });
         reads = gates_begun ∙ outs.2 i.list named (list₄ i.list);
       }
@@ -180,20 +158,19 @@ module _ (text : List ℕ) (old inputs : List InputEntry) (old-gates gates : Lis
   answered (Err Size) h = absurd h
   answered (Err (At fault line)) h = sym (ap counts (read_whole ∙ h))
 
-  inputs_held_by : (r : Result (ℕ × ℕ) Refusal) → ListRead text inputs gates r → take (result_unwrap_or r (0, 0)).0 inputs ++ replicate (length inputs - (result_unwrap_or r (0, 0)).0) no_input ≡ input_table old (admitted (length old) (length old-gates) text)
+  -- a table, whose first entries are written and whose others are blanked, by the count of its own entries
+  table_held : {E : Type 0} (none blank : E) (entries : GateList → List E) (before now : List E) (count : ℕ × ℕ → ℕ) (r : Result (ℕ × ℕ) Refusal) (x : ℕ × ℕ) → length now ≡ length before → count (0, 0) ≡ 0 → ((y : ℕ × ℕ) (b : GateList) → Held text inputs gates y.0 y.1 b → (take (count y) now ≡ entries b) × (count y ≡ length (entries b))) → ListRead text inputs gates r → x ≡ result_unwrap_or r (0, 0) → blank ≡ none → take (count x) now ++ replicate (length now - count x) blank ≡ table none entries before (admitted (length old) (length old-gates) text)
   unfolding outcome
-  inputs_held_by (Ok x) h = rows_filled inputs old (input_entries h.0) x.0 no_input h.1.input_rows (h.1.input_count ∙ sym (length-laid write_input input_entry (inputs_place h.0) h.0.inputs)) long ∙ sym (ap (input_table old) (read_whole ∙ h.2))
-  inputs_held_by (Err Size) h = absurd h
-  inputs_held_by (Err (At fault line)) h = all_blank inputs old no_input fault long ∙ sym (ap (input_table old) (read_whole ∙ h))
+  table_held none blank entries before now count r x level zero rows h ex eb =
+      ap (λ b. take (count x) now ++ replicate (length now - count x) b) eb ∙ ap (λ y. take (count y) now ++ replicate (length now - count y) none) ex ∙ by r h
+    where
+      by : (r : Result (ℕ × ℕ) Refusal) → ListRead text inputs gates r → take (count (result_unwrap_or r (0, 0))) now ++ replicate (length now - count (result_unwrap_or r (0, 0))) none ≡ table none entries before (admitted (length old) (length old-gates) text)
+      by (Ok y) k = let is = rows y k.0 k.1 in rows_filled now before (entries k.0) (count y) none is.0 is.1 level ∙ sym (ap (table none entries before) (read_whole ∙ k.2))
+      by (Err Size) k = absurd k
+      by (Err (At fault line)) k = ap (λ n. take n now ++ replicate (length now - n) none) zero ∙ all_blank now before none fault level ∙ sym (ap (table none entries before) (read_whole ∙ k))
 
   pub inputs_held : (r : Result (ℕ × ℕ) Refusal) (x : ℕ × ℕ) (blank : InputEntry) → ListRead text inputs gates r → x ≡ result_unwrap_or r (0, 0) → blank ≡ no_input → take x.0 inputs ++ replicate (length inputs - x.0) blank ≡ input_table old (admitted (length old) (length old-gates) text)
-  inputs_held r x blank h ex eb = ap (λ b. take x.0 inputs ++ replicate (length inputs - x.0) b) eb ∙ ap (λ (y : ℕ × ℕ). take y.0 inputs ++ replicate (length inputs - y.0) no_input) ex ∙ inputs_held_by r h
-
-  gates_held_by : (r : Result (ℕ × ℕ) Refusal) → ListRead text inputs gates r → take (result_unwrap_or r (0, 0)).1 gates ++ replicate (length gates - (result_unwrap_or r (0, 0)).1) no_gate ≡ gate_table old-gates (admitted (length old) (length old-gates) text)
-  unfolding outcome
-  gates_held_by (Ok x) h = rows_filled gates old-gates (gate_entries h.0) x.1 no_gate h.1.gate_rows (h.1.gate_count ∙ sym (length-laid write_gate gate_entry (gates_place h.0) h.0.gates)) gates-long ∙ sym (ap (gate_table old-gates) (read_whole ∙ h.2))
-  gates_held_by (Err Size) h = absurd h
-  gates_held_by (Err (At fault line)) h = all_blank gates old-gates no_gate fault gates-long ∙ sym (ap (gate_table old-gates) (read_whole ∙ h))
+  inputs_held r x blank = table_held no_input blank input_entries old inputs (λ y. y.0) r x long refl (λ y b h. (h.input_rows, h.input_count ∙ sym (length-laid write_input input_entry (inputs_place b) b.inputs)))
 
   pub gates_held : (r : Result (ℕ × ℕ) Refusal) (x : ℕ × ℕ) (blank : GateEntry) → ListRead text inputs gates r → x ≡ result_unwrap_or r (0, 0) → blank ≡ no_gate → take x.1 gates ++ replicate (length gates - x.1) blank ≡ gate_table old-gates (admitted (length old) (length old-gates) text)
-  gates_held r x blank h ex eb = ap (λ b. take x.1 gates ++ replicate (length gates - x.1) b) eb ∙ ap (λ (y : ℕ × ℕ). take y.1 gates ++ replicate (length gates - y.1) no_gate) ex ∙ gates_held_by r h
+  gates_held r x blank = table_held no_gate blank gate_entries old-gates gates (λ y. y.1) r x gates-long refl (λ y b h. (h.gate_rows, h.gate_count ∙ sym (length-laid write_gate gate_entry (gates_place b) b.gates)))

@@ -1,11 +1,12 @@
 -- What the parts of the reading answer.
-use Rattle.std.specs.Prelude.{◌≡◌, ℕ, ◌+◌, ◌-◌, ◌<◌, ◌≤◌, Bool, List, [], ◌++◌, length, take, drop, Some, None, Ok, Err, Option, Result}
+use Rattle.std.specs.Prelude.{◌≡◌, ℕ, ◌+◌, ◌-◌, ◌<◌, ◌≤◌, Bool, List, [], ◌++◌, length, take, codes, drop, Some, None, Ok, Err, Option, Result}
 use Rattle.std.specs.Borrow.{Bor}
 use Rattle.std.specs.List.{AllByRecursion}
-use Rattle.gate_list_format.specs.Slots.{Outcome, accepted, refused, Form, read}
+use Rattle.gate_list_format.specs.Slots.{Outcome, accepted, refused, Form, ends, read}
 use Rattle.gate_list_format.specs.Lists.{GateList, Input, Gate, LawfulGate, input_names, write_input, write_gate, writes, written}
-use Rattle.gate_list_format.specs.Reading.{input_forms, gate_forms, member, known, sourced, answer, reading}
+use Rattle.gate_list_format.specs.Reading.{heading_form, input_forms, gate_forms, member, known, sourced, answer, reading}
 use Rattle.gate_list_format.specs.Places.{laid}
+use Rattle.gate_list_lines.specs.Lines.{HeadingIs}
 use Rattle.gate_list_lookup.specs.Lookup.{pin_number}
 use Rattle.gate_list_names.specs.declared.InputEntry.{InputEntry}
 use Rattle.gate_list_names.specs.declared.GateEntry.{GateEntry}
@@ -51,6 +52,41 @@ pub record Held (text : List ℕ) (inputs : List InputEntry) (gates : List GateE
   pub written : text ≡ written b
   pub input_rows : take n inputs ≡ input_entries b
   pub gate_rows : take r gates ≡ gate_entries b
+
+-- what is read behind the inputs' lines, behind the gates' heading, and behind the gates' lines
+abbrev pub list₄ : List Input → List Gate → Form GateList
+list₄ is gs = ends (answer (record { inputs = is; gates = gs }))
+
+abbrev pub list₃ : List Input → ℕ → Form GateList
+list₃ is r = gate_forms r is [] (list₄ is)
+
+abbrev pub list₂ : List Input → Form GateList
+list₂ is = heading_form (codes "gates") 96 (list₃ is)
+
+-- the text begins with the inputs' heading and so many input lines, and the table's first entries are theirs
+pub record InputsIn (text : List ℕ) (n : ℕ) (inputs : List InputEntry) (rest : List ℕ) : Type 0 where
+  pub list : List Input
+  pub body : List ℕ
+  pub heading : HeadingIs (codes "inputs") 32 text n body
+  pub lines : InputsAre n text body inputs list rest
+  pub reads : reading text ≡ read (list₂ list) (2 + n) rest
+
+-- and with the gates' heading and so many gate lines
+pub record GatesIn (text : List ℕ) (n r : ℕ) (inputs : List InputEntry) (gates : List GateEntry) (rest : List ℕ) : Type 0 where
+  pub list : GateList
+  pub few : r ≤ 96
+  pub holds : length rest ≡ 0 → Held text inputs gates n r list
+  pub reads : reading text ≡ read (ends (answer list)) (n + 3 + r) rest
+
+-- the inputs' section is read, with its heading
+abbrev pub InputSection : List ℕ → List InputEntry → Result (ℕ × Bor (List ℕ)) Refusal → Type 0
+InputSection text inputs (Ok x) = InputsIn text x.0 inputs x.1.now
+InputSection text inputs (Err e) = RefusedAt (reading text) e
+
+-- the gates' section is read, behind so many inputs
+abbrev pub GateSection : List ℕ → ℕ → List InputEntry → List GateEntry → Result (ℕ × Bor (List ℕ)) Refusal → Type 0
+GateSection text n inputs gates (Ok x) = GatesIn text n x.0 inputs gates x.1.now
+GateSection text n inputs gates (Err e) = RefusedAt (reading text) e
 
 -- all lines are read, but for the look at the sources
 abbrev pub LinesRead : List ℕ → List InputEntry → List GateEntry → Result (ℕ × ℕ) Refusal → Type 0

@@ -7,7 +7,7 @@ ghost use Rattle.gate_list_names.specs.Given.{all_names};
 ghost use Rattle.gate_list.specs.Laws.{EntriesName, EntriesStand};
 ghost use Rattle.gate_list.specs.Refusals.{refusal_number, refusal_line, from_record, refusal_words, tied};
 ghost use Rattle.gate_list.specs.Tables.{told, counts, input_table, gate_table};
-ghost use Rattle.gate_list.specs.Parts.{Rest, InputsRead, GatesRead, LinesRead, PinCount, SourceKnown, GateKnown, UnknownGate, ListRead};
+ghost use Rattle.gate_list.specs.Parts.{Rest, InputsRead, GatesRead, InputsIn, InputSection, GateSection, LinesRead, PinCount, SourceKnown, GateKnown, UnknownGate, ListRead};
 
 use gate_list_fields::Fault;
 use gate_list_lines::{Line, Section, gate_line, heading, input_line};
@@ -19,10 +19,12 @@ use std::fmt;
 /// The most bytes that are read
 const MOST_BYTES: usize = 65536;
 
-/// The fewest entries that the name tables may have
-const INPUT_ENTRIES: usize = 32;
+// The format's own limits: that the circuit's are the same numbers is no part of the format.
+/// The fewest entries that the table of inputs may have
+pub const INPUT_ENTRIES: usize = 32;
 
-const GATE_ENTRIES: usize = 96;
+/// The fewest entries that the table of gates may have
+pub const GATE_ENTRIES: usize = 96;
 
 /// Why a gate list is refused
 #[derive(Clone, Copy, PartialEq, Eq, Debug)]
@@ -45,6 +47,7 @@ impl Refusal {
     }
 
     /// The line that it stands in, or 0
+    // 0 is what is printed where there is no line.
     pub fn line(self) -> usize
         ensures { result ≡ refusal_line self }
     {
@@ -144,12 +147,8 @@ fn read_lines(
     requires { (32 ≤ length inputs.old) × (96 ≤ length gates.old) }
     ensures { LinesRead text.now inputs.new gates.new result }
 {
-    let (n, rest) = at_line(1, heading(text, Section::Inputs))?;
-    let n = usize::from(n);
-    let rest = read_inputs(rest, text, &mut inputs[..n])?;
-    let (r, rest) = at_line(n + 2, heading(rest, Section::Gates))?;
-    let r = usize::from(r);
-    let rest = read_gates(rest, text, n + 3, &inputs[..n], &mut gates[..r])?;
+    let (n, rest) = read_input_section(text, inputs)?;
+    let (r, rest) = read_gate_section(rest, text, n, inputs, gates)?;
     if !rest.is_empty() {
         return Err(Refusal::At {
             fault: Fault::Form,
@@ -157,6 +156,38 @@ fn read_lines(
         });
     }
     Ok((n, r))
+}
+
+/// The inputs' heading and lines, whose entries begin the table: how many they are, and the text behind them
+fn read_input_section<'a>(
+    text: &'a [u8],
+    table: &mut [InputEntry],
+) -> Result<(usize, &'a [u8]), Refusal>
+    requires { 32 ≤ length table.old }
+    ensures { InputSection text.now table.new result }
+{
+    let (n, rest) = at_line(1, heading(text, Section::Inputs))?;
+    let n = usize::from(n);
+    let rest = read_inputs(rest, text, &mut table[..n])?;
+    Ok((n, rest))
+}
+
+/// The same of the gates, behind so many inputs
+fn read_gate_section<'a>(
+    text: &'a [u8],
+    whole: &[u8],
+    n: usize,
+    inputs: &[InputEntry],
+    table: &mut [GateEntry],
+) -> Result<(usize, &'a [u8]), Refusal>
+    requires room { (32 ≤ length inputs.now) × (96 ≤ length table.old) }
+    requires begun { InputsIn whole.now n inputs.now text.now }
+    ensures { GateSection whole.now n inputs.now table.new result }
+{
+    let (r, rest) = at_line(n + 2, heading(text, Section::Gates))?;
+    let r = usize::from(r);
+    let rest = read_gates(rest, whole, n + 3, &inputs[..n], &mut table[..r])?;
+    Ok((r, rest))
 }
 
 /// What was read of a line, or its fault as a refusal
@@ -177,7 +208,7 @@ fn read_inputs<'a>(
     ensures { InputsRead (length table.old) whole.now text.now table.new result }
 {
     let mut rest = text;
-    // A line's name is looked up among the entries before it, so the loop goes by number: `split_at_mut` is no plainer.
+    // By number: the entries before are read while the next one is written, and a split at each line says the same with more words.
     for i in 0..table.len() {
         let place = whole.len() - rest.len();
         let names = Names {
@@ -209,7 +240,7 @@ fn read_gates<'a>(
 {
     let mut rest = text;
     let mut before: usize = 0;
-    // By number too, and the wires are summed up as the lines are read.
+    // By number, as the inputs are, and the wires are summed up as the lines are read.
     for i in 0..table.len() {
         let place = whole.len() - rest.len();
         let names = Names {
@@ -261,6 +292,7 @@ fn source_known(names: Names<'_>, place: usize, pin: usize) -> bool
 }
 
 /// The pin count of the gate line at a place
+// A line that is not there has no pins.
 fn pin_count_at(text: &[u8], place: usize) -> u8
     ensures { PinCount text.now place result }
 {
@@ -273,8 +305,8 @@ mod tests {
     use std::test::Fail;
 
     fn refused(text: &[u8], number: u8, line: usize) -> bool {
-        let mut inputs = [InputEntry::default(); 32];
-        let mut gates = [GateEntry::default(); 96];
+        let mut inputs = [InputEntry::default(); INPUT_ENTRIES];
+        let mut gates = [GateEntry::default(); GATE_ENTRIES];
         check_list(text, &mut inputs[..], &mut gates[..]).is_err_and(|refusal| refusal.number()
             == number
             && refusal.line() == line)

@@ -27,6 +27,7 @@ pub enum Fault {
 
 impl Fault {
     /// The fault's number
+    // Written out, and not as the cases' own values: the numbers are those of the documents, and code goes by the fault.
     pub fn number(self) -> u8
         ensures { result ≡ number_of self }
     {
@@ -86,6 +87,7 @@ pub fn close(text: &[u8], end: End) -> Result<&[u8], Fault>
 }
 
 /// A bit, or its fault
+// A number and no `bool`, as the record's calls take it.
 fn bit(field: &[u8]) -> Result<u8, Fault>
     ensures { verdict bit_judge field.now ≡ judged result }
 {
@@ -100,7 +102,7 @@ fn bit(field: &[u8]) -> Result<u8, Fault>
 pub fn bit_slot(text: &[u8], end: End) -> Result<(u8, &[u8]), Fault>
     ensures { Slotted bit_judge (end_of end) text.now result }
 {
-    // Not by the generic slot of the lines: that has a `requires`, for its judge, and another crate could name it.
+    // Not by the generic `slot` of the lines: it asks of its judge that it may be called, and what another crate can name asks nothing.
     let (field, behind) = split_field(text);
     let value = bit(field)?;
     let rest = close(behind, end)?;

@@ -1,6 +1,7 @@
 -- Slots, by what a judge makes of the field.
 use Rattle.std.proofs.Common.{◌≡◌, ℕ, List, [], ◌∷◌, None, Ok, Err, Result, sym, refl, ap, ◌∙◌, subst, ⊎_elim}
 use Rattle.std.specs.Borrow.{Bor}
+use Rattle.std.specs.Result.{MatchResult}
 use Rattle.gate_list_format.specs.Slots.{End, Judged, fits, fault, verdict, field, behind, past}
 use Rattle.gate_list_fields.specs.declared.Fault.{Fault}
 use Rattle.gate_list_fields.specs.declared.Fault.TheVariants.{Form}
@@ -35,6 +36,11 @@ stopped {T} judge end text answers f h bad good = ⊎_elim
 pub slotted : (judge : List ℕ → Judged) (end : End) (text : List ℕ) (answers : Result ℕ Fault → Type 0) (result : Result (ℕ × Bor (List ℕ)) Fault) → SlotRead answers end text result → ((r : Result ℕ Fault) → answers r → judge (field text) ≡ judged r) → Slotted judge end text result
 slotted judge end text answers (Ok x) h is = passed judge end text answers x x.0 h (is (Ok x.0) h.is.1)
 slotted judge end text answers (Err f) h is = stopped judge end text answers f h (is (Err f)) (λ v a. (v, is (Ok v) a))
+
+-- the same of a value that has the number in it
+pub numbered : {T : Type 0} (number : T → ℕ) (judge : List ℕ → Judged) (end : End) (text : List ℕ) (answers : Result T Fault → Type 0) (result : Result (T × Bor (List ℕ)) Fault) → SlotRead answers end text result → ((r : Result T Fault) → answers r → MatchResult r (λ x. judge (field text) ≡ fits (number x)) (λ f. judge (field text) ≡ fault (number_of f))) → MatchResult result (λ x. Passed judge end text (field text) (number x.0) x.1.now) (λ f. Failed judge end text (number_of f))
+numbered number judge end text answers (Ok x) h is = passed judge end text answers x (number x.0) h (is (Ok x.0) h.is.1)
+numbered number judge end text answers (Err f) h is = stopped judge end text answers f h (is (Err f)) (λ v a. (number v, is (Ok v) a))
 
 pub named : (judge : List ℕ → Judged) (end : End) (text : List ℕ) (answers : Result (Bor (List ℕ)) Fault → Type 0) (result : Result (Bor (List ℕ) × Bor (List ℕ)) Fault) → SlotRead answers end text result → ((r : Result (Bor (List ℕ)) Fault) → answers r → NameJudged judge (field text) r) → Named judge end text result
 named judge end text answers (Ok x) h is =

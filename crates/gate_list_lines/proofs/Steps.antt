@@ -1,24 +1,22 @@
 -- Steps of headings, pins and lines.
-use Rattle.std.proofs.Common.{Ok, Err, ◌≡◌, ℕ, zero, suc, ◌+◌, ◌-◌, ◌<◌, ◌≤◌, true, false, ◌&&◌, leb, List, [], ◌∷◌, ◌++◌, length, take, decimal, Some, None, Option, Result, sym, refl, ap, ◌∙◌, subst, arith}
+use Rattle.std.proofs.Common.{Ok, Err, ◌≡◌, ℕ, zero, suc, ◌+◌, ◌-◌, ◌<◌, ◌≤◌, true, false, ◌&&◌, List, [], ◌∷◌, ◌++◌, length, take, decimal, Result, sym, refl, ap, ◌∙◌, subst, arith}
 use Rattle.std.specs.Borrow.{Bor}
 use Rattle.std.specs.List.{AllByRecursion}
 use Rattle.std.specs.Ordering.{is_le, nat_cmp}
 use Rattle.std.proofs.lemmas.Bool.Decides.{nat_tests}
-use Rattle.std.specs.Option.{MatchOption, ok_or}
 use Rattle.std.proofs.ByRecursion.{All-append}
 use Rattle.std.proofs.lemmas.List.{length-append, length_push, take_at}
-use Rattle.std.proofs.lemmas.Bool.{cond-true, cond-false, and_from, and_left, and_right, le-leb, lt-leb}
-use Rattle.gate_list_format.specs.Slots.{End, space, newline, fits, fault, verdict, field, read, line_after, Form, slot}
-use Rattle.gate_list_format.specs.Lists.{GateList, Pin, LawfulInput, LawfulPin, LawfulGate, is_name, pin_end, least_pins, most_pins, word_text, write_input, write_pins, write_gate}
-use Rattle.gate_list_format.specs.Reading.{pick, heading, count, source_name, bit, pin_forms, pin_count, pins_of, member, new_name, gate_word}
+use Rattle.std.proofs.lemmas.Bool.{cond-true, cond-false}
+use Rattle.gate_list_format.specs.Slots.{End, space, newline, fits, fault, field, read, line_after, Form, slot}
+use Rattle.gate_list_format.specs.Lists.{GateList, Input, Pin, Gate, LawfulPin, is_name, pin_end, least_pins, most_pins, word_text, write_pins}
+use Rattle.gate_list_format.specs.Reading.{pick, heading, count, source_name, bit, pin_forms, pin_count, member, new_name, gate_word, input_form, gate_form}
 use Rattle.gate_list_format.proofs.Forms.{put_same}
 use Rattle.gate_list_format.proofs.Judges.{source_read, number_read, word_read, pins_read, name_read}
 use Rattle.gate_list_format.proofs.Laid.{pins_onto}
+use Rattle.gate_list_format.proofs.Passed.{after_name, after_applied, after_start, after_source, after_bit, gate₁, gate₂, gate₃, gate₄, gate₅}
 use Rattle.gate_list_fields.specs.declared.Fault.{Fault}
-use Rattle.gate_list_fields.specs.declared.Fault.TheVariants.{Word}
-use Rattle.gate_list_fields.proofs.Numbers.{word_good, word_bad}
-use Rattle.gate_list_fields.specs.Taken.{Passed, Slotted, judged}
-use Rattle.gate_list_lines.specs.Lines.{HeadingRead, pin_form, write_pin}
+use Rattle.gate_list_fields.specs.Taken.{Passed, Slotted}
+use Rattle.gate_list_lines.specs.Lines.{HeadingRead, InputIs, PinIs, PinsAre, GateIs, pin_form, write_pin}
 
 -- a count from 0
 pub count_is : (most : ℕ) → pick 16 decimal 0 (most + 1 - 0) ≡ count most
@@ -57,18 +55,18 @@ name_repeated seen f p q = cond-true (is_name f) _ (fault 15) p ∙ cond-true (m
 pub contained : (s e v : ℕ) → s ≤ v → v ≤ e → (is_le (nat_cmp s v) && is_le (nat_cmp v e)) ≡ true
 contained s e v a b = grind (arith, nat_tests)
 
--- gate words
-pub word_judged : (f : List ℕ) (o : Option ℕ) (r : Result ℕ Fault) → r ≡ ok_or o Word → MatchOption o ((n : ℕ) → n < 10 → f ≡ word_text n → ⊥) (λ n. (n < 10) × (f ≡ word_text n)) → gate_word f ≡ judged r
-word_judged f None r e h = word_bad f h ∙ ap judged (sym e)
-word_judged f (Some n) r e h = word_good f n h.0 h.1 ∙ ap judged (sym e)
-
 -- an input line from its slots
-pub input_written : (seen : List (List ℕ)) (text name t₁ : List ℕ) (applied : ℕ) (t₂ : List ℕ) (start : ℕ) (rest : List ℕ) → Passed (new_name seen) space text name 0 t₁ → Passed bit space t₁ (field t₁) applied t₂ → Passed bit newline t₂ (field t₂) start rest → text ≡ write_input (record { name = name; applied = applied; start = start }) rest
-input_written seen text name t₁ applied t₂ start rest p q r =
-    put_same text name name space t₁ _ p.begins refl (put_same t₁ (field t₁) (decimal applied) space t₂ _ q.begins (number_read 15 0 2 applied (field t₁) q.fits).2 (put_same t₂ (field t₂) (decimal start) newline rest _ r.begins (number_read 15 0 2 start (field t₂) r.fits).2 refl))
+module _ (seen : List (List ℕ)) {text name t₁ : List ℕ} (p : Passed (new_name seen) space text name 0 t₁) {applied : ℕ} {t₂ : List ℕ} (q : Passed bit space t₁ (field t₁) applied t₂) where
+  pub past_applied : (line : ℕ) (next : Input → Form GateList) → read (input_form seen next) line text ≡ read (after_applied next name (field t₁) applied) line t₂
+  past_applied line next = p.on line (after_name next) ∙ q.on line (after_applied next name)
 
-pub input_lawful : (seen : List (List ℕ)) (text name t₁ : List ℕ) (applied : ℕ) (t₂ : List ℕ) (start : ℕ) (rest : List ℕ) → Passed (new_name seen) space text name 0 t₁ → Passed bit space t₁ (field t₁) applied t₂ → Passed bit newline t₂ (field t₂) start rest → LawfulInput (record { name = name; applied = applied; start = start })
-input_lawful seen text name t₁ applied t₂ start rest p q r = record { name = (name_read seen name 0 p.fits).0; applied = (number_read 15 0 2 applied (field t₁) q.fits).1; start = (number_read 15 0 2 start (field t₂) r.fits).1 }
+  pub input_is : (start : ℕ) (rest : List ℕ) → Passed bit newline t₂ (field t₂) start rest → InputIs seen text (record { name = name; applied = applied; start = start }) rest
+  input_is start rest r =
+      record {
+        lawful = record { name = (name_read seen name 0 p.fits).0; applied = (number_read 15 0 2 applied (field t₁) q.fits).1; start = (number_read 15 0 2 start (field t₂) r.fits).1 };
+        written = put_same text name name space t₁ _ p.begins refl (put_same t₁ (field t₁) (decimal applied) space t₂ _ q.begins (number_read 15 0 2 applied (field t₁) q.fits).2 (put_same t₂ (field t₂) (decimal start) newline rest _ r.begins (number_read 15 0 2 start (field t₂) r.fits).2 refl));
+        on = λ line next. past_applied line next ∙ r.on line (after_start next name applied);
+      }
 
 -- pins
 pub first_line : (k line : ℕ) → 0 < k → line_after (pin_end k) line ≡ line
@@ -78,11 +76,15 @@ first_line (suc m) line h = refl
 pub next_pin : (k m : ℕ) (ps : List Pin) (next : List Pin → Form GateList) (line : ℕ) (text : List ℕ) → k ≡ suc m → read (pin_forms k ps next) (line_after (pin_end k) line) text ≡ read (pin_form (pin_end m) (λ p. pin_forms m (ps ++ (p ∷ [])) next)) line text
 next_pin k m ps next line text e = ap (λ n. read (pin_forms n ps next) (line_after (pin_end n) line) text) e
 
-pub pin_written : (text source t₁ : List ℕ) (start : ℕ) (end : End) (rest : List ℕ) → Passed source_name space text source 0 t₁ → Passed bit end t₁ (field t₁) start rest → text ≡ write_pin (record { source = source; start = start }) end rest
-pin_written text source t₁ start end rest p q = put_same text source source space t₁ _ p.begins refl (put_same t₁ (field t₁) (decimal start) end rest rest q.begins (number_read 15 0 2 start (field t₁) q.fits).2 refl)
-
-pub pin_lawful : (text source t₁ : List ℕ) (start : ℕ) (end : End) (rest : List ℕ) → Passed source_name space text source 0 t₁ → Passed bit end t₁ (field t₁) start rest → LawfulPin (record { source = source; start = start })
-pin_lawful text source t₁ start end rest p q = record { source = source_read source 0 p.fits; start = (number_read 15 0 2 start (field t₁) q.fits).1 }
+-- a pin from its slots
+pub pin_is : (text source t₁ : List ℕ) (start : ℕ) (end : End) (rest : List ℕ) → Passed source_name space text source 0 t₁ → Passed bit end t₁ (field t₁) start rest → PinIs end text (record { source = source; start = start }) rest
+pin_is text source t₁ start end rest p q =
+    let bit = number_read 15 0 2 start (field t₁) q.fits in
+    record {
+      lawful = record { source = source_read source 0 p.fits; start = bit.1 };
+      written = put_same text source source space t₁ _ p.begins refl (put_same t₁ (field t₁) (decimal start) end rest rest q.begins bit.2 refl);
+      on = λ line next. p.on line (after_source end next) ∙ q.on line (after_bit next source);
+    }
 
 -- pins that so many more follow
 abbrev pub leading : ℕ → List Pin → List ℕ → List ℕ
@@ -116,42 +118,33 @@ pins_cut text ps rest e =
     let cut : length text - length rest ≡ length (write_pins ps []) = omega arith in
     ap (λ n. take n text) cut ∙ ap (take (length (write_pins ps []))) split ∙ take_at (write_pins ps []) rest (length (write_pins ps [])) refl
 
--- the pin count's judgement, from the number's
-verdict_pins : (word before : ℕ) (f : List ℕ) → verdict (pin_count word before) f ≡ pins_of word before (verdict (pick 16 decimal 1 8) f)
-verdict_pins word before [] = refl
-verdict_pins word before (b ∷ bs) = refl
+-- a gate line from its slots: what is read behind each of them, and what all of them write
+module _ (seen : List (List ℕ)) {text name t₁ : List ℕ} (before : ℕ) (p : Passed (new_name seen) space text name 0 t₁) where
+  pub past_name : (line : ℕ) (next : Gate → Form GateList) → read (gate_form seen before next) line text ≡ read (gate₁ before next name 0) line t₁
+  past_name line next = p.on line (gate₁ before next)
 
-pub pins_good : (word before p : ℕ) (f : List ℕ) → verdict (pick 16 decimal 1 8) f ≡ fits p → least_pins word ≤ p → p ≤ most_pins word → before + p ≤ 384 → verdict (pin_count word before) f ≡ fits p
-pins_good word before p f i a b r =
-    verdict_pins word before f ∙ ap (pins_of word before) i
-    ∙ cond-true (leb (least_pins word) p && leb p (most_pins word)) _ (fault 18) (and_from _ _ (le-leb (least_pins word) p a) (le-leb p (most_pins word) b))
-    ∙ cond-true (leb (before + p) 384) (fits p) (fault 2) (le-leb (before + p) 384 r)
+  module _ {word : ℕ} {t₂ : List ℕ} (q : Passed gate_word space t₁ (field t₁) word t₂) where
+    pub past_word : (line : ℕ) (next : Gate → Form GateList) → read (gate_form seen before next) line text ≡ read (gate₂ before next name (field t₁) word) line t₂
+    past_word line next = past_name line next ∙ q.on line (gate₂ before next name)
 
-pub pins_few : (word before p : ℕ) (f : List ℕ) → verdict (pick 16 decimal 1 8) f ≡ fits p → p < least_pins word → verdict (pin_count word before) f ≡ fault 18
-pins_few word before p f i a =
-    verdict_pins word before f ∙ ap (pins_of word before) i
-    ∙ cond-false (leb (least_pins word) p && leb p (most_pins word)) _ (fault 18) (and_left _ _ (lt-leb (least_pins word) p a))
+    module _ {n : ℕ} {t₃ : List ℕ} (r : Passed (pin_count word before) space t₂ (field t₂) n t₃) where
+      pub past_count : (line : ℕ) (next : Gate → Form GateList) → read (gate_form seen before next) line text ≡ read (gate₃ next name word (field t₂) n) line t₃
+      past_count line next = past_word line next ∙ r.on line (gate₃ next name word)
 
-pub pins_many : (word before p : ℕ) (f : List ℕ) → verdict (pick 16 decimal 1 8) f ≡ fits p → most_pins word < p → verdict (pin_count word before) f ≡ fault 18
-pins_many word before p f i a =
-    verdict_pins word before f ∙ ap (pins_of word before) i
-    ∙ cond-false (leb (least_pins word) p && leb p (most_pins word)) _ (fault 18) (and_right _ _ (lt-leb p (most_pins word) a))
+      module _ {start : ℕ} {t₄ : List ℕ} (s : Passed bit space t₃ (field t₃) start t₄) where
+        pub past_start : (line : ℕ) (next : Gate → Form GateList) → read (gate_form seen before next) line text ≡ read (gate₄ next name word n (field t₃) start) line t₄
+        past_start line next = past_count line next ∙ s.on line (gate₄ next name word n)
 
-pub pins_over : (word before p : ℕ) (f : List ℕ) → verdict (pick 16 decimal 1 8) f ≡ fits p → least_pins word ≤ p → p ≤ most_pins word → 384 < before + p → verdict (pin_count word before) f ≡ fault 2
-pins_over word before p f i a b r =
-    verdict_pins word before f ∙ ap (pins_of word before) i
-    ∙ cond-true (leb (least_pins word) p && leb p (most_pins word)) _ (fault 18) (and_from _ _ (le-leb (least_pins word) p a) (le-leb p (most_pins word) b))
-    ∙ cond-false (leb (before + p) 384) (fits p) (fault 2) (lt-leb (before + p) 384 r)
-
--- a gate line from its slots
-pub gate_written : (seen : List (List ℕ)) (text name t₁ : List ℕ) (word : ℕ) (t₂ : List ℕ) (n before : ℕ) (t₃ : List ℕ) (start : ℕ) (t₄ : List ℕ) (ps : List Pin) (rest : List ℕ) → Passed (new_name seen) space text name 0 t₁ → Passed gate_word space t₁ (field t₁) word t₂ → Passed (pin_count word before) space t₂ (field t₂) n t₃ → Passed bit space t₃ (field t₃) start t₄ → t₄ ≡ write_pins ps rest → length ps ≡ n → text ≡ write_gate (record { name = name; word = word; start = start; pins = ps }) rest
-gate_written seen text name t₁ word t₂ n before t₃ start t₄ ps rest p q r s e l =
-    put_same text name name space t₁ _ p.begins refl
-    (put_same t₁ (field t₁) (word_text word) space t₂ _ q.begins (word_read (field t₁) word q.fits).1
-    (put_same t₂ (field t₂) (decimal (length ps)) space t₃ _ r.begins ((pins_read word before (field t₂) n r.fits).0 ∙ ap decimal (sym l))
-    (put_same t₃ (field t₃) (decimal start) space t₄ _ s.begins (number_read 15 0 2 start (field t₃) s.fits).2 e)))
-
-pub gate_lawful : (seen : List (List ℕ)) (text name t₁ : List ℕ) (word : ℕ) (t₂ : List ℕ) (n before : ℕ) (t₃ : List ℕ) (start : ℕ) (t₄ : List ℕ) (ps : List Pin) → Passed (new_name seen) space text name 0 t₁ → Passed gate_word space t₁ (field t₁) word t₂ → Passed (pin_count word before) space t₂ (field t₂) n t₃ → Passed bit space t₃ (field t₃) start t₄ → AllByRecursion LawfulPin ps → length ps ≡ n → LawfulGate (record { name = name; word = word; start = start; pins = ps })
-gate_lawful seen text name t₁ word t₂ n before t₃ start t₄ ps p q r s each l =
-    let c = pins_read word before (field t₂) n r.fits in
-    record { name = (name_read seen name 0 p.fits).0; word = (word_read (field t₁) word q.fits).0; least = subst (λ m. least_pins word ≤ m) (sym l) c.1; most = subst (λ m. m ≤ most_pins word) (sym l) c.2; start = (number_read 15 0 2 start (field t₃) s.fits).1; pins = each }
+        pub gate_is : (ps : List Pin) (rest : List ℕ) → PinsAre n t₄ ps rest → before + n ≤ 384 → GateIs seen before text (record { name = name; word = word; start = start; pins = ps }) rest
+        gate_is ps rest are room =
+            let c = pins_read word before (field t₂) n r.fits in
+            record {
+              lawful = record { name = (name_read seen name 0 p.fits).0; word = (word_read (field t₁) word q.fits).0; least = subst (λ m. least_pins word ≤ m) (sym are.long) c.1; most = subst (λ m. m ≤ most_pins word) (sym are.long) c.2; start = (number_read 15 0 2 start (field t₃) s.fits).1; pins = are.lawful };
+              room = omega (arith, are.long, room);
+              written =
+                  put_same text name name space t₁ _ p.begins refl
+                  (put_same t₁ (field t₁) (word_text word) space t₂ _ q.begins (word_read (field t₁) word q.fits).1
+                  (put_same t₂ (field t₂) (decimal (length ps)) space t₃ _ r.begins (c.0 ∙ ap decimal (sym are.long))
+                  (put_same t₃ (field t₃) (decimal start) space t₄ _ s.begins (number_read 15 0 2 start (field t₃) s.fits).2 are.written)));
+              on = λ line next. past_start line next ∙ are.on line (gate₅ next name word start);
+            }

@@ -10,7 +10,7 @@ ghost use Rattle.gate_list_lines.specs.Lines.{HeadingRead, PinRead, PinsRead, In
 use gate_list_fields::{End, Fault, bit_slot};
 use gate_list_names::Names;
 use slots::{count_slot, name_slot, source_slot, word_taken};
-use words::{kind_of, pin_count_slot, word_slot};
+use words::{shape_slot, word_slot};
 
 mod slots;
 mod words;
@@ -34,6 +34,7 @@ pub struct GateFields<'a> {
 }
 
 /// A read line
+// One of two cases, whose names are parts of the text.
 #[derive(Clone, Copy)]
 pub enum Line<'a> {
     Input(InputFields<'a>),
@@ -70,6 +71,7 @@ impl Section {
         ensures most { result ≡ section_most self }
         ensures small { result < 100 }
     {
+        // The format's own limits: that the circuit's are the same numbers is no part of the format.
         match self {
             Section::Inputs => 32,
             Section::Gates => 96,
@@ -110,15 +112,15 @@ pub fn gate_line<'a>(
 {
     let (name, text) = name_slot(text, names)?;
     let (word, text) = word_slot(text)?;
-    let (pin_count, text) = pin_count_slot(text, word, before)?;
+    let (shape, text) = shape_slot(text, word, before)?;
     let (start, text) = bit_slot(text, End::Space)?;
-    let rest = pins_part(text, pin_count)?;
-    let kind = kind_of(word, pin_count);
+    let rest = pins_part(text, shape.pins)?;
+    let kind = shape.kind();
     let pins = &text[..text.len() - rest.len()];
     let fields = GateFields {
         name,
         kind,
-        pin_count,
+        pin_count: shape.pins,
         start,
         pins,
     };

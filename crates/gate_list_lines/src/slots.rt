@@ -97,23 +97,15 @@ pub(crate) fn name_slot<'a>(text: &'a [u8], names: Names<'_>) -> Result<(&'a [u8
     ensures { Named (name_judge (all_names names.entry)) space text.now result }
 {
     // The slices one by one: a proof knows nothing of what a closure answers that captures a struct of references.
-    let Names {
-        text: whole,
-        inputs,
-        gates,
-    } = names;
-    slot(
-        text,
-        End::Space,
-        |field| new_name(
-            field,
-            Names {
-                text: whole,
-                inputs,
-                gates,
-            },
-        ),
-    )
+    let (whole, inputs, gates) = (names.text, names.inputs, names.gates);
+    slot(text, End::Space, |field| {
+        let names = Names {
+            text: whole,
+            inputs,
+            gates,
+        };
+        new_name(field, names)
+    })
 }
 
 /// A source name and its end, or the fault

@@ -35,6 +35,7 @@ pub fn pin_at(text: &[u8], place: usize, p: usize) -> Option<PinFields<'_>>
 }
 
 /// A pin's fields among those of so many pins
+// A walk of its own: it ends at the pin that is asked for, and the one that reads a line goes through all.
 fn pin_of(pins: &[u8], count: u8, p: usize) -> Option<PinFields<'_>>
     ensures { (ps : List Pin) → AllByRecursion LawfulPin ps → length ps ≡ count → pins.now ≡ write_pins ps [] → PinOf ps p result }
 {

@@ -5,7 +5,7 @@ use Rattle.std.specs.List.{AllWithin, HoldsAt}
 use Rattle.std.specs.Option.{MatchOption, option_map}
 use Rattle.std.proofs.lemmas.Slice.Eq.{bytes_eq-Decides}
 use Rattle.std.proofs.lemmas.List.{get_or-map, length-map}
-use Rattle.std.proofs.lemmas.Bool.{or_left, or_right, or_from, both_ways}
+use Rattle.std.proofs.lemmas.Bool.{or_left, or_right, or_from, both_ways, false_from_ne_true}
 use Rattle.gate_list_format.specs.Reading.{member}
 use Rattle.gate_list_names.specs.Names.{First}
 use Rattle.gate_list_names.specs.Sources.{FirstSource}
@@ -30,12 +30,9 @@ first_named f h table (Some i) a = (
   λ k l. named h table k (omega (arith, a.0)) (λ n. n ≡ f → ⊥) (λ d. differs (h (get_or table k d)) f (a.2 k d (omega arith) l)),
 )
 
-same_not : (f n : List ℕ) → (n ≡ f → ⊥) → bytes_eq f n ≡ false
-same_not f n h = go (bytes_eq f n) refl
-  where
-    go : (t : Bool) → bytes_eq f n ≡ t → t ≡ false
-    go true p = absurd (h (sym ((bytes_eq-Decides f n).0 p)))
-    go false p = refl
+-- a name that is another fails the test
+pub same_not : (f n : List ℕ) → (n ≡ f → ⊥) → bytes_eq f n ≡ false
+same_not f n h = false_from_ne_true (bytes_eq f n) (λ e. h (sym ((bytes_eq-Decides f n).0 e)))
 
 pub first_none : (f : List ℕ) (ns : List (List ℕ)) → First f ns None → member f ns ≡ false
 first_none f [] h = refl

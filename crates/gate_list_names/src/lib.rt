@@ -25,6 +25,8 @@ pub trait Entry {
 }
 
 /// The name of an input
+// A place and a length, and no slice: the tables are the caller's, and may outlive the text.
+// Both entries spell these two fields: they are plain values that callers write and read field by field.
 #[derive(Clone, Copy, PartialEq, Eq, Debug, Default)]
 pub struct InputEntry {
     pub place: usize,

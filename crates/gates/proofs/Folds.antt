@@ -1,5 +1,6 @@
 -- The exact extension of a function that takes its bits one by one.
-use Rattle.std.proofs.Common.{◌≡◌, Bool, true, false, List, [], ◌∷◌, ◌++◌, map, refl, ap, ◌∙◌}
+use Rattle.std.proofs.Common.{◌≡◌, suc, Bool, true, false, List, [], ◌∷◌, ◌++◌, map, length, sym, refl, ap, ap₂, ◌∙◌}
+use Rattle.std.proofs.lemmas.Simd.{map-map}
 use Rattle.std.proofs.lemmas.List.{map-append}
 use Rattle.gates.specs.declared.Mark.{Mark}
 use Rattle.gates.specs.declared.Mark.TheVariants.{Zero, One, Unknown}
@@ -133,15 +134,11 @@ module _ (op : Bool → Bool → Bool) (f : List Bool → Bool) (unfolds : (b : 
 
 -- any function, by its first mark
 module _ (f : List Bool → Bool) where
-  map_first : (b : Bool) (xs : List (List Bool)) → map f (map (λ bs. b ∷ bs) xs) ≡ map (λ bs. f (b ∷ bs)) xs
-  map_first b [] = refl
-  map_first b (x ∷ xs) = ap (λ ys. f (b ∷ x) ∷ ys) (map_first b xs)
-
   pub extended_zero : (ms : List Mark) → extended f (Zero ∷ ms) ≡ extended (λ bs. f (false ∷ bs)) ms
-  extended_zero ms = ap least (map_first false (covered ms))
+  extended_zero ms = ap least (map-map f (λ (bs : List Bool). false ∷ bs) (covered ms))
 
   pub extended_one : (ms : List Mark) → extended f (One ∷ ms) ≡ extended (λ bs. f (true ∷ bs)) ms
-  extended_one ms = ap least (map_first true (covered ms))
+  extended_one ms = ap least (map-map f (λ (bs : List Bool). true ∷ bs) (covered ms))
 
   pub extended_unknown : (ms : List Mark) → extended f (Unknown ∷ ms) ≡ lub (extended (λ bs. f (false ∷ bs)) ms) (extended (λ bs. f (true ∷ bs)) ms)
   extended_unknown ms =
@@ -154,10 +151,12 @@ module _ (f : List Bool → Bool) where
       ∙ ap (λ n. lub n (least (map f high))) (extended_zero ms)
       ∙ ap (λ n. lub (extended (λ bs. f (false ∷ bs)) ms) n) (extended_one ms)
 
--- functions that agree have the same extension
-pub extended_same : (f h : List Bool → Bool) → ((bs : List Bool) → f bs ≡ h bs) → (ms : List Mark) → extended f ms ≡ extended h ms
-extended_same f h agree ms = ap least (maps (covered ms))
-  where
-    maps : (xs : List (List Bool)) → map f xs ≡ map h xs
-    maps [] = refl
-    maps (x ∷ xs) = ap (λ y. y ∷ map f xs) (agree x) ∙ ap (λ ys. h x ∷ ys) (maps xs)
+-- functions that agree at the bit lists that are as long as the marks have the same extension
+pub extended_same : (f h : List Bool → Bool) (ms : List Mark) → ((bits : List Bool) → length bits ≡ length ms → f bits ≡ h bits) → extended f ms ≡ extended h ms
+extended_same f h [] e = ap settled (e [] refl)
+extended_same f h (Zero ∷ ms) e = extended_zero f ms ∙ extended_same (λ bits. f (false ∷ bits)) (λ bits. h (false ∷ bits)) ms (λ bits l. e (false ∷ bits) (ap suc l)) ∙ sym (extended_zero h ms)
+extended_same f h (One ∷ ms) e = extended_one f ms ∙ extended_same (λ bits. f (true ∷ bits)) (λ bits. h (true ∷ bits)) ms (λ bits l. e (true ∷ bits) (ap suc l)) ∙ sym (extended_one h ms)
+extended_same f h (Unknown ∷ ms) e =
+    extended_unknown f ms
+    ∙ ap₂ lub (extended_same (λ bits. f (false ∷ bits)) (λ bits. h (false ∷ bits)) ms (λ bits l. e (false ∷ bits) (ap suc l))) (extended_same (λ bits. f (true ∷ bits)) (λ bits. h (true ∷ bits)) ms (λ bits l. e (true ∷ bits) (ap suc l)))
+    ∙ sym (extended_unknown h ms)

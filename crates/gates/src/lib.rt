@@ -74,6 +74,7 @@ impl Mark {
     }
 
     /// The character of the sheet: `0`, `1` or `?`.
+    // A byte beside `Display`: the sheet is written as bytes.
     pub fn symbol(self) -> u8
         ensures { result ≡ mark_symbol self }
     {
@@ -86,6 +87,7 @@ impl Mark {
 }
 
 /// A numbered list of gate kinds, each a pin count and a Boolean function.
+// A kind is a number and no enum: each library has its own list, and a number that is not in it is answered with nothing.
 pub trait GateLibrary {
     ghost kinds: { Self → List Kind };
 
@@ -97,7 +99,7 @@ pub trait GateLibrary {
     fn pin_count(&self, kind: usize) -> Option<usize>
         ensures { result ≡ pins_of (kinds self.now) kind };
 
-    // Bits and marks are asked apart, and not by one question over a type parameter: a library may know its functions of bits alone.
+    // Bits and marks are asked apart: one question over a type parameter would want a trait of entries for just these two types.
     /// The function's value, or nothing if the kind is absent or has another pin count.
     fn value(&self, kind: usize, bits: &[bool]) -> Option<bool>
         ensures { result ≡ value_of (kinds self.now) kind bits.now };

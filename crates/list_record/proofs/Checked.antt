@@ -18,8 +18,9 @@ pub record Checked (inputs gates : ℕ) (text : List ℕ) (n r : ℕ) : Type 0 w
   pub listed : Listed list text
   pub input_count : n ≡ length list.inputs
   pub gate_count : r ≡ length list.gates
-  pub input_room : 32 ≤ inputs
-  pub gate_room : 96 ≤ gates
+  pub inputs_fit : n ≤ inputs
+  pub gates_fit : r ≤ gates
+  pub few_gates : r ≤ 96
 
 pub checked : (inputs gates : ℕ) (text : List ℕ) (n r : ℕ) → accepted (n, r) ≡ counts (admitted inputs gates text) → Checked inputs gates text n r
 checked inputs gates text n r e = go (admitted inputs gates text) refl
@@ -36,8 +37,9 @@ checked inputs gates text n r e = go (admitted inputs gates text) refl
           listed = record { lawful = law.2; written = sym law.3 };
           input_count = ap (λ (p : ℕ × ℕ). p.0) pair;
           gate_count = ap (λ (p : ℕ × ℕ). p.1) pair;
-          input_room = law.0;
-          gate_room = law.1;
+          inputs_fit = omega (arith, ap (λ (p : ℕ × ℕ). p.0) pair, law.2.inputs, law.0);
+          gates_fit = omega (arith, ap (λ (p : ℕ × ℕ). p.1) pair, law.2.gates, law.1);
+          few_gates = omega (arith, ap (λ (p : ℕ × ℕ). p.1) pair, law.2.gates);
         }
 
 pub input_rows : (b : GateList) (old new : List InputEntry) (n : ℕ) (o : Outcome GateList) → o ≡ accepted b → n ≡ length b.inputs → new ≡ input_table old o → take n new ≡ input_entries b

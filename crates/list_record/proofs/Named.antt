@@ -1,10 +1,10 @@
 -- The source that a name has, as a search finds it.
-use Rattle.std.proofs.Common.{◌≡◌, ℕ, zero, suc, ◌<◌, Bool, true, false, List, [], ◌∷◌, length, is_some, Some, None, Option, sym, refl, ap, ◌∙◌, subst, arith}
+use Rattle.std.proofs.Common.{◌≡◌, ℕ, zero, suc, ◌<◌, true, false, List, [], ◌∷◌, length, is_some, Some, None, Option, sym, refl, ap, ◌∙◌, subst, arith}
 use Rattle.std.specs.Option.{option_map}
 use Rattle.std.specs.Str.{bytes_eq}
 use Rattle.std.proofs.lemmas.Slice.Eq.{bytes_eq-Decides}
 use Rattle.std.proofs.lemmas.List.{length-map}
-use Rattle.std.proofs.lemmas.Bool.{cond-true, cond-false, lt-ltb, false_from_ne_true}
+use Rattle.std.proofs.lemmas.Bool.{cond-true, cond-false, lt-ltb}
 use Rattle.circuit.specs.Circuits.{Circuit, tapped}
 use Rattle.circuit.specs.Changes.{source_of}
 use Rattle.gate_list_format.specs.Lists.{GateList, In, names, input_names, gate_names}
@@ -15,13 +15,10 @@ use Rattle.gate_list.proofs.Known.{entries_name}
 use Rattle.gate_list_names.specs.Sources.{FirstSource}
 use Rattle.circuit.specs.declared.Source.{Source}
 use Rattle.circuit.specs.declared.Source.TheVariants.{Input, Gate}
-use Rattle.gate_list_names.proofs.Found.{source_member}
+use Rattle.gate_list_names.proofs.Found.{same_not, source_member}
 use Rattle.list_record.specs.ListBoards.{position, source_at, source_named}
 use Rattle.gate_list_names.specs.declared.Names.{Names}
 use Rattle.list_record.specs.Replay.{Lists}
-
-same_not : (f n : List ℕ) → (n ≡ f → ⊥) → bytes_eq f n ≡ false
-same_not f n h = false_from_ne_true (bytes_eq f n) (λ e. h (sym ((bytes_eq-Decides f n).0 e)))
 
 pub first_position : (f : List ℕ) (ns : List (List ℕ)) (r : Option ℕ) → First f ns r → position f ns ≡ r
 first_position f [] None h = refl

@@ -12,6 +12,7 @@ use circuit::Signal;
 use gate_list_lookup::{gate_at, input_at, pin_at};
 use gate_list_names::{GateEntry, Names};
 
+// No `else { return }` or `let _ =` hides a refusal: a checked list has its lines, and the record takes each call, as the contracts say.
 // The record and the names stand side by side: each method of one struct with both would also have to say that the names stay.
 
 /// Enters the list that the tables hold into a newly opened record.

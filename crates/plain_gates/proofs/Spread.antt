@@ -82,4 +82,4 @@ spread_extended out (Unknown ∷ ms) =
     ∙ spread_more (λ k. out k (suc (length ms))) (sure_ones ms) (unknowns ms)
 
 pub extended_rule : (rule : Rule) (ms : List Mark) → extended (function_of rule) ms ≡ spread (λ k. output_at rule k (length ms)) (sure_ones ms) (unknowns ms)
-extended_rule rule ms = extended_same (function_of rule) _ (counted rule) ms ∙ spread_extended (output_at rule) ms
+extended_rule rule ms = extended_same (function_of rule) _ ms (λ bits l. counted rule bits) ∙ spread_extended (output_at rule) ms

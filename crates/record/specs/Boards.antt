@@ -23,16 +23,19 @@ pub record Held (L : Type 0) : Type 0 where
 
 -- what every record keeps
 pub record Filled (c : Circuit) (state : List Bool) (marks : Option (List Mark × List Mark)) : Type 0 where
-  -- the circuit is one that the tables keep
-  pub kept : Kept c
   -- every signal has a value
   pub valued : length state ≡ size c
   -- and, where marks stand, a mark of each pass
   pub marked : (firsts seconds : List Mark) → marks ≡ Some (firsts, seconds) → (length firsts ≡ size c) × (length seconds ≡ size c)
 
 -- what holds of the board of every record
-abbrev pub Sound : Board → Type 0
-Sound b = Filled b.circuit b.state b.marks
+pub record Sound (b : Board) : Type 0 where
+  -- the circuit is one that the tables keep
+  pub kept : Kept b.circuit
+  -- every signal has a value
+  pub valued : length b.state ≡ size b.circuit
+  -- and, where marks stand, a mark of each pass
+  pub marked : (firsts seconds : List Mark) → b.marks ≡ Some (firsts, seconds) → (length firsts ≡ size b.circuit) × (length seconds ≡ size b.circuit)
 
 -- a newly opened record has no signals and no marks
 abbrev pub opened : List Kind → Board

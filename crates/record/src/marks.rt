@@ -1,9 +1,10 @@
 //! The marks of a circuit, in memory that is reserved when a record is opened.
-ghost use Rattle.std.specs.Prelude.{◌≡◌, ◌≤◌, length, IfOk, MatchOption};
+ghost use Rattle.std.specs.Prelude.{◌≡◌, ◌≤◌, length, IfOk, MatchOption, vec_len, vec_capacity};
 ghost use Rattle.circuit.specs.Circuits.{size};
 ghost use Rattle.circuit.specs.Passes.{open_count};
 ghost use Rattle.record.specs.Runs.{Marked};
 
+use circuit::reserved::push_all;
 use circuit::tables::Tables;
 use circuit::tables::changes::{MAX_GATES, MAX_INPUTS, MAX_WIRES};
 use gates::{GateLibrary, Mark};
@@ -16,6 +17,7 @@ pub(crate) const MAX_SIGNALS: usize = MAX_INPUTS + MAX_GATES + MAX_WIRES;
 /// The first and the second marks, as long as they stand.
 #[derive(Drop)]
 pub(crate) struct Marking {
+    // Two lists and not one of pairs: each pass reads one list of marks and writes another.
     firsts: Vec<Mark>,
     seconds: Vec<Mark>,
     spare: Vec<Mark>,
@@ -77,9 +79,9 @@ impl Marking {
         ensures { Marked (L.GateLibrary.kinds library.now) tables.now values.now result self.new }
     {
         let size = tables.size();
-        self.firsts.resize(size, Mark::Zero).unwrap();
-        self.seconds.resize(size, Mark::Zero).unwrap();
-        self.spare.resize(size, Mark::Zero).unwrap();
+        blank(&mut self.firsts, size);
+        blank(&mut self.seconds, size);
+        blank(&mut self.spare, size);
         let (first_steps, second_steps) = tables
             .run(
                 library,
@@ -92,6 +94,16 @@ impl Marking {
         self.stand = true;
         (first_steps, second_steps, count_open(&self.seconds))
     }
+}
+
+// Makes room for a mark of each signal, in reserved memory.
+fn blank(marks: &mut Vec<Mark>, size: usize)
+    requires { size ≤ vec_capacity marks.old }
+    ensures len { vec_len marks.new ≡ size }
+    ensures capacity { vec_capacity marks.new ≡ vec_capacity marks.old }
+{
+    marks.clear();
+    push_all(marks, size, Mark::Zero).unwrap();
 }
 
 /// How many marks are unknown.

@@ -15,14 +15,14 @@ pub mod moving;
 
 /// A circuit record over a gate library.
 #[derive(Drop)]
-pub struct Record<L: GateLibrary> {
+pub struct Record<L> {
     library: L,
     tables: Tables,
     values: Vec<bool>,
     marking: Marking,
 }
 
-impl<L: GateLibrary> Model for Record<L> {
+impl<L> Model for Record<L> {
     ghost use Rattle.std.specs.Prelude.{◌≤◌, vec_items, vec_capacity};
     ghost use Rattle.record.specs.Boards.{Held, Filled};
 
@@ -39,6 +39,6 @@ impl<L: GateLibrary> Record<L> {
     pub fn sound(&self)
         ensures { Sound (board_of L.GateLibrary.kinds self.now) }
     {
-        let _ = &self.values;
+        self.tables.kept();
     }
 }

@@ -20,7 +20,7 @@ fn the_sheet_fits_its_buffer_exactly(rt: HostRuntime) -> Result<(), Fail> {
     enter_latch(&mut board, NOR_2)?;
     assert_eq!(rt; board.run(), Ok((4, 2, 4)));
     let mut short = [b'#'; 48];
-    assert_eq!(rt; board.sheet(&mut short), Err(Refusal::ShortBuffer));
+    assert_eq!(rt; board.sheet(&mut short).map_err(Refusal::number), Err(11));
     assert_eq!(rt; short, [b'#'; 48]);
     let mut buffer = [b'#'; 60];
     assert_eq!(rt; board.sheet(&mut buffer), Ok(49));
@@ -32,24 +32,49 @@ fn the_sheet_fits_its_buffer_exactly(rt: HostRuntime) -> Result<(), Fail> {
 #[test]
 fn the_first_check_refuses(rt: HostRuntime) -> Result<(), Fail> {
     let mut board = Record::open(rt.alloc(), Complement { below: PlainGates })?;
-    assert_eq!(rt; board.add_gate(50), Err(Refusal::NoKind));
-    assert_eq!(rt; board.marks(Signal::Input(0)), Err(Refusal::Absent));
-    assert_eq!(rt; board.sheet(&mut []), Err(Refusal::NoMarks));
+    assert_eq!(rt; board.add_gate(50).map_err(Refusal::number), Err(1));
+    assert_eq!(rt;
+        board.marks(Signal::Input(0)).map_err(Refusal::number),
+        Err(3)
+    );
+    assert_eq!(rt; board.sheet(&mut []).map_err(Refusal::number), Err(9));
     board.add_input()?;
     board.add_gate(NOT)?;
-    assert_eq!(rt; board.marks(Signal::Input(0)), Err(Refusal::NoMarks));
-    assert_eq!(rt; board.unstable(Signal::Wire(1)), Err(Refusal::Absent));
+    assert_eq!(rt;
+        board.marks(Signal::Input(0)).map_err(Refusal::number),
+        Err(9)
+    );
+    assert_eq!(rt;
+        board.unstable(Signal::Wire(1)).map_err(Refusal::number),
+        Err(3)
+    );
     assert_eq!(rt;
         board.unstable(Signal::Input(0)),
         Err(Refusal::Unjoined(0, 0))
     );
     assert_eq!(rt; board.run(), Err(Refusal::Unjoined(0, 0)));
-    assert_eq!(rt; board.set_input(1, 2), Err(Refusal::Absent));
-    assert_eq!(rt; board.set_input(0, 2), Err(Refusal::NotABit));
-    assert_eq!(rt; board.set_signal(Signal::Gate(1), 2), Err(Refusal::Absent));
-    assert_eq!(rt; board.set_signal(Signal::Gate(0), 2), Err(Refusal::NotABit));
-    assert_eq!(rt; board.join(0, 0, Signal::Wire(0)), Err(Refusal::Absent));
-    assert_eq!(rt; board.join(0, 1, Signal::Gate(0)), Err(Refusal::Absent));
+    assert_eq!(rt; board.set_input(1, 2).map_err(Refusal::number), Err(3));
+    assert_eq!(rt; board.set_input(0, 2).map_err(Refusal::number), Err(4));
+    assert_eq!(rt;
+        board
+            .set_signal(Signal::Gate(1), 2)
+            .map_err(Refusal::number),
+        Err(3)
+    );
+    assert_eq!(rt;
+        board
+            .set_signal(Signal::Gate(0), 2)
+            .map_err(Refusal::number),
+        Err(4)
+    );
+    assert_eq!(rt;
+        board.join(0, 0, Signal::Wire(0)).map_err(Refusal::number),
+        Err(3)
+    );
+    assert_eq!(rt;
+        board.join(0, 1, Signal::Gate(0)).map_err(Refusal::number),
+        Err(3)
+    );
     Ok(())
 }
 
@@ -59,12 +84,12 @@ fn there_is_room_for_32_inputs_96_gates_and_384_wires(rt: HostRuntime) -> Result
     for i in 0..32 {
         assert_eq!(rt; board.add_input(), Ok(i));
     }
-    assert_eq!(rt; board.add_input(), Err(Refusal::Full));
+    assert_eq!(rt; board.add_input().map_err(Refusal::number), Err(2));
     for _ in 0..48 {
         board.add_gate(AND_8)?;
     }
-    assert_eq!(rt; board.add_gate(NOT), Err(Refusal::Full));
-    assert_eq!(rt; board.add_gate(50), Err(Refusal::NoKind));
+    assert_eq!(rt; board.add_gate(NOT).map_err(Refusal::number), Err(2));
+    assert_eq!(rt; board.add_gate(50).map_err(Refusal::number), Err(1));
     Ok(())
 }
 
@@ -73,17 +98,31 @@ fn accepted_changes_drop_the_marks_and_refused_ones_keep_them(rt: HostRuntime) -
     let mut board = Record::open(rt.alloc(), Complement { below: PlainGates })?;
     enter_latch(&mut board, NOR_2)?;
     board.run()?;
-    assert_eq!(rt; board.join(0, 5, Signal::Gate(0)), Err(Refusal::Absent));
-    assert_eq!(rt; board.set_signal(Signal::Gate(0), 3), Err(Refusal::NotABit));
+    assert_eq!(rt;
+        board.join(0, 5, Signal::Gate(0)).map_err(Refusal::number),
+        Err(3)
+    );
+    assert_eq!(rt;
+        board
+            .set_signal(Signal::Gate(0), 3)
+            .map_err(Refusal::number),
+        Err(4)
+    );
     assert_eq!(rt;
         board.marks(Signal::Input(0)),
         Ok((Mark::Unknown, Mark::Zero))
     );
     board.set_signal(Signal::Gate(0), 0)?;
-    assert_eq!(rt; board.marks(Signal::Input(0)), Err(Refusal::NoMarks));
+    assert_eq!(rt;
+        board.marks(Signal::Input(0)).map_err(Refusal::number),
+        Err(9)
+    );
     board.run()?;
     board.join(0, 0, Signal::Input(0))?;
-    assert_eq!(rt; board.marks(Signal::Input(0)), Err(Refusal::NoMarks));
+    assert_eq!(rt;
+        board.marks(Signal::Input(0)).map_err(Refusal::number),
+        Err(9)
+    );
     Ok(())
 }
 

@@ -26,10 +26,10 @@ module _ (truth i w : ℕ) (marks : List Mark) (some : 0 < length marks) where
   first_is m is = ap (extended (from truth i w)) (first_rest marks Zero some ∙ ap (λ x. x ∷ rest marks) is)
 
   low : extended (λ bits. from truth i w (false ∷ bits)) (rest marks) ≡ extended (from truth i (2 * w)) (rest marks)
-  low = extended_same _ _ (λ bits. ap (bit_at truth) (low_index i w (index_of bits))) (rest marks)
+  low = extended_same _ _ (rest marks) (λ bits l. ap (bit_at truth) (low_index i w (index_of bits)))
 
   high : extended (λ bits. from truth i w (true ∷ bits)) (rest marks) ≡ extended (from truth (i + w) (2 * w)) (rest marks)
-  high = extended_same _ _ (λ bits. ap (bit_at truth) (high_index i w (index_of bits))) (rest marks)
+  high = extended_same _ _ (rest marks) (λ bits l. ap (bit_at truth) (high_index i w (index_of bits)))
 
   -- with what the rest of the marks gave
   pub spread_zero : (l : Mark) → l ≡ extended (from truth i (2 * w)) (rest marks) → get_or marks 0 Zero ≡ Zero → l ≡ extended (from truth i w) marks
@@ -47,7 +47,7 @@ module _ (truth i w : ℕ) (marks : List Mark) (some : 0 < length marks) where
 
 -- from the first pin on
 pub spread_all : (truth : ℕ) (marks : List Mark) → extended (from truth 0 1) marks ≡ extended (output_by truth) marks
-spread_all truth marks = extended_same _ _ (λ bits. ap (bit_at truth) (one (index_of bits))) marks
+spread_all truth marks = extended_same _ _ marks (λ bits l. ap (bit_at truth) (one (index_of bits)))
   where
     one : (n : ℕ) → 0 + 1 * n ≡ n
     one n = omega arith

@@ -6,10 +6,12 @@ use gates::{Complement, Mark};
 use plain_gates::PlainGates;
 use record::Refusal;
 use record::record::Record;
+use sheet::LONGEST;
 use std::fmt::Display;
 use std::io::Write;
 use std::{fmt, io};
 
+// Spelled out: the one crate with a name for this type is the gate list reader's.
 type Board = Record<Complement<PlainGates>>;
 
 // Kinds of the complementing layer over plain gates, by their numbers in the library's list.
@@ -41,7 +43,7 @@ const RELEASED: Signal = Signal::Gate(4);
 
 const LED: Signal = Signal::Gate(5);
 
-// Fewer calls than `calls::Call` has: the shortest example of a record used from code, and its `Debug` is what is printed.
+// Not `calls::Call`, whose list of signals and size of buffer would be printed: this program prints a call by its `Debug`.
 #[derive(Clone, Copy, Debug)]
 enum Call {
     AddInput,
@@ -55,7 +57,7 @@ enum Call {
     Sheet,
 }
 
-static SESSION: [Call; 52] = [
+static SESSION: &[Call] = &[
     // an empty board
     Call::Sheet,
     Call::Run,
@@ -156,7 +158,8 @@ fn tell_done(rt: &HostRuntime, call: Call, answer: Result<(), Refusal>) -> io::R
 
 // The length of the sheet, and the sheet.
 fn tell_sheet(rt: &HostRuntime, board: &Board) -> io::Result<()> {
-    let mut buffer = [0u8; 1565];
+    // The record writes into the caller's buffer and takes no memory.
+    let mut buffer = [0u8; LONGEST];
     let answer = board.sheet(&mut buffer);
     tell(rt, Call::Sheet, answer)?;
     let sheet = answer.ok().and_then(|length| buffer.get(..length));
@@ -179,7 +182,7 @@ fn answer(rt: &HostRuntime, board: &mut Board, call: Call) -> io::Result<()> {
 
 fn main(rt: HostRuntime) -> anyhow::Result<()> {
     let mut board = Record::open(rt.alloc(), Complement { below: PlainGates })?;
-    for call in &SESSION {
+    for call in SESSION {
         answer(&rt, &mut board, *call)?;
     }
     Ok(())

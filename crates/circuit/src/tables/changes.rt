@@ -4,6 +4,7 @@ ghost use Rattle.circuit.specs.Wiring.{Kept};
 ghost use Rattle.circuit.specs.Changes.{empty, input_fits, with_input, gate_fits, with_gate, join_fits, with_joined, has_input, with_applied};
 
 use super::Tables;
+use crate::reserved::push_all;
 use crate::{Gate, Signal};
 use std::alloc::{AllocError, Global};
 
@@ -24,8 +25,7 @@ pub enum Misfit {
 
 impl Tables {
     pub fn open(heap: Global) -> Result<Tables, AllocError>
-        ensures value { IfOk result (λ t. t ≡ empty) }
-        ensures kept { IfOk result Kept }
+        ensures { IfOk result (λ t. t ≡ empty) }
     {
         Ok(Tables {
             applied: Vec::with_capacity(heap, MAX_INPUTS)?,
@@ -38,7 +38,6 @@ impl Tables {
     pub fn add_input(&mut self) -> Result<usize, Misfit>
         ensures answer { result ≡ (if input_fits self.old then Ok (length self.old.applied) else Err Misfit.Full) }
         ensures after { self.new ≡ (if input_fits self.old then with_input self.old else self.old) }
-        ensures kept { Kept self.new }
     {
         let number = self.applied.len();
         if number >= MAX_INPUTS {
@@ -52,7 +51,6 @@ impl Tables {
     pub fn add_gate(&mut self, kind: usize, pins: usize) -> Result<usize, Misfit>
         ensures answer { result ≡ (if gate_fits self.old pins then Ok (length self.old.gates) else Err Misfit.Full) }
         ensures after { self.new ≡ (if gate_fits self.old pins then with_gate self.old kind pins else self.old) }
-        ensures kept { Kept self.new }
     {
         let number = self.gates.len();
         let first = self.sources.len();
@@ -60,7 +58,7 @@ impl Tables {
             return Err(Misfit::Full);
         }
         self.gates.push_reserved(Gate { kind, first, pins });
-        let Ok(()) = self.sources.resize(first + pins, None) else {
+        let Ok(()) = push_all(&mut self.sources, pins, None) else {
             unreachable!()
         };
         Ok(number)
@@ -70,7 +68,6 @@ impl Tables {
     pub fn join(&mut self, gate: usize, pin: usize, source: Signal) -> Result<(), Misfit>
         ensures answer { result ≡ (if join_fits self.old gate pin source then Ok tt else Err Misfit.Absent) }
         ensures after { self.new ≡ (if join_fits self.old gate pin source then with_joined self.old gate pin source else self.old) }
-        ensures kept { Kept self.new }
     {
         if gate >= self.gates.len() {
             return Err(Misfit::Absent);
@@ -88,7 +85,6 @@ impl Tables {
     pub fn apply(&mut self, input: usize, bit: bool) -> Result<(), Misfit>
         ensures answer { result ≡ (if has_input self.old input then Ok tt else Err Misfit.Absent) }
         ensures after { self.new ≡ (if has_input self.old input then with_applied self.old input bit else self.old) }
-        ensures kept { Kept self.new }
     {
         if input >= self.applied.len() {
             return Err(Misfit::Absent);

@@ -8,8 +8,7 @@ use super::Tables;
 impl Tables {
     /// Takes all signals away; the memory stays reserved.
     pub fn clear(&mut self)
-        ensures value { self.new ≡ empty }
-        ensures kept { Kept self.new }
+        ensures { self.new ≡ empty }
     {
         self.applied.clear();
         self.gates.clear();

@@ -66,7 +66,7 @@ impl<'a, L: GateLibrary, V: Level<L>> Moment<'a, L, V> {
         }
     }
 
-    // Where a source stands in sheet order.
+    // Where a source stands in sheet order; `Tables::place` would test once more that it is there.
     fn place(&self, source: Source) -> usize
         requires { Has self.now.tables.now (tapped source) }
         ensures value { result ≡ place self.now.tables.now (tapped source) }

@@ -8,6 +8,14 @@ use super::Tables;
 use crate::{Gate, Signal, Source};
 
 impl Tables {
+    /// Theorem: what every circuit in tables keeps.
+    pub fn kept(&self)
+        ensures { Kept self.now }
+    {
+        // The invariant is known where a field is read.
+        let _ = &self.applied;
+    }
+
     pub fn input_count(&self) -> usize
         ensures { result ≡ length self.now.applied }
     {
@@ -63,9 +71,9 @@ impl Tables {
 
     /// The first unjoined pin, by gate and then by pin.
     pub fn first_unjoined(&self) -> Option<(usize, usize)>
-        ensures first { result ≡ first_unjoined self.now }
-        ensures kept { Kept self.now }
+        ensures { result ≡ first_unjoined self.now }
     {
+        // Two loops, by gate and then by pin, left by a label at the first pin that is found.
         'search: {
             for (number, gate) in self.gates.iter().enumerate() {
                 let sources = &self.sources[gate.first..gate.first + gate.pins];

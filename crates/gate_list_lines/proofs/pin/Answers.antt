@@ -2,7 +2,7 @@ use Rattle.std.proofs.Common.{refl, ◌∙◌}
 use Rattle.std.proofs.lemmas.Result.{err_from_is_err_and}
 use Rattle.gate_list_fields.specs.Taken.{end_of}
 use Rattle.gate_list_format.proofs.Passed.{after_source, after_bit}
-use Rattle.gate_list_lines.proofs.Steps.{pin_written, pin_lawful}
+use Rattle.gate_list_lines.proofs.Steps.{pin_is}
 use Rattle.gate_list_lines.proofs.pin.Goals as goal
 
 pub returns-in_err-source : goal.returns-in_err-source
@@ -18,17 +18,9 @@ returns-in_err-start c =
 
 pub returns : goal.returns
 returns c =
-    let text = c.args.text.now in
     let source = c.in_ok-source.source.now in
-    let behind = c.in_ok-source.behind.now in
-    let start = c.in_ok-start.start in
-    let rest = c.in_ok-start.rest.now in
-    let e = end_of c.args.end in (
+    let start = c.in_ok-start.start in (
       record { source = source; start = start },
       (refl, refl),
-      record {
-        lawful = pin_lawful text source behind start e rest c.in_ok-source.ensures c.in_ok-start.ensures;
-        written = pin_written text source behind start e rest c.in_ok-source.ensures c.in_ok-start.ensures;
-        on = λ line next. c.in_ok-source.ensures.on line (after_source e next) ∙ c.in_ok-start.ensures.on line (after_bit next source);
-      },
+      pin_is c.args.text.now source c.in_ok-source.behind.now start (end_of c.args.end) c.in_ok-start.rest.now c.in_ok-source.ensures c.in_ok-start.ensures,
     )

@@ -6,29 +6,21 @@ use Rattle.list_record.proofs.Checked.{checked, input_rows, gate_rows}
 use Rattle.list_record.proofs.read_list.Goals as goal
 
 pub slice_bounds-names-end : goal.slice_bounds-names-end
-slice_bounds-names-end c =
-    let k = checked (length c.args.inputs.now) (length c.args.gates.now) c.args.text.now c.in_ok-n.n c.in_ok-n.r c.in_ok-n.ensures.answer in
-    omega (arith, k.listed.lawful.inputs, k.input_count, k.input_room)
+slice_bounds-names-end c = omega (arith, (checked _ _ _ _ _ c.in_ok-n.ensures.answer).inputs_fit)
 
 pub slice_bounds-names-end-2 : goal.slice_bounds-names-end-2
-slice_bounds-names-end-2 c =
-    let k = checked (length c.args.inputs.now) (length c.args.gates.now) c.args.text.now c.in_ok-n.n c.in_ok-n.r c.in_ok-n.ensures.answer in
-    sym (length-take-le c.in_ok-n.n c.check_list.new.inputs (omega (arith, k.listed.lawful.inputs, k.input_count, k.input_room)))
+slice_bounds-names-end-2 c = sym (length-take-le c.in_ok-n.n c.check_list.new.inputs (omega (arith, (checked _ _ _ _ _ c.in_ok-n.ensures.answer).inputs_fit)))
 
 pub slice_bounds-names-end-3 : goal.slice_bounds-names-end-3
-slice_bounds-names-end-3 c =
-    let k = checked (length c.args.inputs.now) (length c.args.gates.now) c.args.text.now c.in_ok-n.n c.in_ok-n.r c.in_ok-n.ensures.answer in
-    omega (arith, k.listed.lawful.gates, k.gate_count, k.gate_room)
+slice_bounds-names-end-3 c = omega (arith, (checked _ _ _ _ _ c.in_ok-n.ensures.answer).gates_fit)
 
 pub slice_bounds-names-end-4 : goal.slice_bounds-names-end-4
-slice_bounds-names-end-4 c =
-    let k = checked (length c.args.inputs.now) (length c.args.gates.now) c.args.text.now c.in_ok-n.n c.in_ok-n.r c.in_ok-n.ensures.answer in
-    sym (length-take-le c.in_ok-n.r c.check_list.new.gates (omega (arith, k.listed.lawful.gates, k.gate_count, k.gate_room)))
+slice_bounds-names-end-4 c = sym (length-take-le c.in_ok-n.r c.check_list.new.gates (omega (arith, (checked _ _ _ _ _ c.in_ok-n.ensures.answer).gates_fit)))
 
 pub enter_list-requires : goal.enter_list-requires
 enter_list-requires c =
-    let k = checked (length c.args.inputs.now) (length c.args.gates.now) c.args.text.now c.in_ok-n.n c.in_ok-n.r c.in_ok-n.ensures.answer in
-    omega (arith, k.listed.lawful.gates, k.gate_count, k.gate_room, length-take-le c.in_ok-n.r c.check_list.new.gates (omega (arith, k.listed.lawful.gates, k.gate_count, k.gate_room)))
+    let k = checked _ _ _ _ _ c.in_ok-n.ensures.answer in
+    omega (arith, k.few_gates, length-take-le c.in_ok-n.r c.check_list.new.gates (omega (arith, k.gates_fit)))
 
 pub returns : goal.returns
 returns c =

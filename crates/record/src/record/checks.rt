@@ -32,6 +32,7 @@ impl<L: GateLibrary> Record<L> {
 }
 
 /// The bit that comes as a number.
+// Callers give numbers and no `bool`, so that one that is neither 0 nor 1 can be refused.
 pub(crate) fn bit_of(number: u8) -> Result<bool, Refusal>
     ensures { result ≡ (if is_bit number then Ok (bit_of number) else Err Refusal.NotABit) }
 {

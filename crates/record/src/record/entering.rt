@@ -11,6 +11,7 @@ use super::checks::bit_of;
 use crate::Refusal;
 use crate::marks::{MAX_SIGNALS, Marking};
 use circuit::Signal;
+use circuit::reserved::push_all;
 use circuit::tables::Tables;
 use gates::GateLibrary;
 use std::alloc::{AllocError, Global};
@@ -35,6 +36,7 @@ impl<L: GateLibrary> Record<L> {
         ensures answer { let b = board_of L.GateLibrary.kinds self.old in told result ≡ told_by (add_input_stop b) (length b.circuit.applied) }
         ensures after { let b = board_of L.GateLibrary.kinds self.old in board_of L.GateLibrary.kinds self.new ≡ left_by (add_input_stop b) b (input_added b) }
     {
+        self.tables.kept();
         let number = self.tables.add_input()?;
         self.values.insert(number, false).unwrap();
         self.marking.withdraw();
@@ -48,9 +50,10 @@ impl<L: GateLibrary> Record<L> {
     {
         let pins = self.library.pin_count(kind).ok_or(Refusal::NoKind)?;
         let place = self.tables.input_count() + self.tables.gate_count();
+        self.tables.kept();
         let number = self.tables.add_gate(kind, pins)?;
         self.values.insert(place, false).unwrap();
-        self.values.resize(self.tables.size(), false).unwrap();
+        push_all(&mut self.values, pins, false).unwrap();
         self.marking.withdraw();
         Ok(number)
     }

@@ -38,6 +38,7 @@ impl<L: GateLibrary> Record<L> {
         ensures { let b = board_of L.GateLibrary.kinds self.old in RunOrStop (run_stop b) b (told result) (board_of L.GateLibrary.kinds self.new) }
     {
         self.check_joined()?;
+        self.tables.kept();
         Ok(self.marking.run(&self.tables, &self.library, &self.values))
     }
 
@@ -56,6 +57,7 @@ impl<L: GateLibrary> Record<L> {
         ensures buffer { let b = board_of L.GateLibrary.kinds self.now in buffer.new ≡ left_by (sheet_stop b (length buffer.old)) buffer.old (overwritten (sheet_of b) buffer.old) }
         ensures few { let b = board_of L.GateLibrary.kinds self.now in is_some b.marks ≡ true → length (sheet_of b) ≤ LONGEST }
     {
+        self.tables.kept();
         let (firsts, seconds) = self.marking.standing().ok_or(Refusal::NoMarks)?;
         let inputs = self.tables.input_count();
         let gates = self.tables.gate_count();

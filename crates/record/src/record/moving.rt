@@ -33,7 +33,7 @@ impl<L: GateLibrary> Record<L> {
         Ok(())
     }
 
-    // The first entry, in order, that cannot be fired.
+    // Refuses the first entry, in order, that cannot be fired.
     fn check_entries(&self, signals: &[Signal]) -> Result<(), Refusal>
         ensures { let b = board_of L.GateLibrary.kinds self.now in told result ≡ told_by (first_stop (entry_stops b [] signals.now)) tt }
     {
@@ -43,7 +43,7 @@ impl<L: GateLibrary> Record<L> {
         Ok(())
     }
 
-    // Whether a signal can be fired with the earlier ones.
+    // Refuses a signal that cannot be fired with the earlier ones.
     #[tactic(auto, using(crate::proofs::Fired::listed_any))]
     fn check_entry(&self, earlier: &[Signal], signal: Signal) -> Result<(), Refusal>
         ensures { let b = board_of L.GateLibrary.kinds self.now in told result ≡ told_by (entry_stop b earlier.now signal) tt }
@@ -92,6 +92,7 @@ fn complement(tables: &Tables, values: &mut [bool], signal: Signal)
     values[place] = !values[place];
 }
 
+// By place: of what is written through a `zip` with `iter_mut` the proof learns nothing.
 fn copy_settled(marks: &[Mark], values: &mut [bool])
     requires { length values.old ≡ length marks.now }
     ensures { values.new ≡ map settled_value marks.now }

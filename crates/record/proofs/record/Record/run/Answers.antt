@@ -11,7 +11,7 @@ use Rattle.record.proofs.record.Record.run.Goals as goal
 pub invariant_of-self : goal.invariant_of-self
 invariant_of-self g c =
     let filled = c.self.invariant.0 in
-    (record { kept = filled.kept; valued = filled.valued; marked = marks_long _ _ _ _ _ c.run.ensures }, c.self.invariant.1)
+    (record { valued = filled.valued; marked = marks_long _ _ _ _ _ c.run.ensures }, c.self.invariant.1)
 
 pub returns : goal.returns
 returns g c =
@@ -22,4 +22,4 @@ returns g c =
     let joined = subst (λ (h : Held g.row.L.Denot). unjoined_stop (board_of kinds h) ≡ None) (sym c.self.view_is) (told_none _ _ _ c.in_ok-check_joined.ensures) in
     let run = subst (λ values. Marked old.kinds old.circuit values c.run.result c.run.new.self) c.deref.ensures.value c.run.ensures in
     subst (λ (h : Held g.row.L.Denot). RunOrStop (run_stop (board_of kinds h)) (board_of kinds h) (answer c.run.result) (record { kinds = old.kinds; circuit = old.circuit; state = old.state; marks = c.run.new.self }))
-    c.self.view_is (ran_unstopped old c.run.result c.run.new.self c.self.invariant.0.kept.wired c.self.invariant.0.valued joined run)
+    c.self.view_is (ran_unstopped old c.run.result c.run.new.self c.kept.ensures.wired c.self.invariant.0.valued joined run)

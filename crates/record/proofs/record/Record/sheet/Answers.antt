@@ -11,4 +11,4 @@ returns-clause-few g c =
     let kinds = g.L.GateLibrary.kinds in
     let r = c.self.inside in
     let held : Held g.row.L.Denot = record { library = r.library; circuit = r.tables; state = vec_items r.values; marks = r.marking } in
-    subst (λ (h : Held g.row.L.Denot). is_some h.marks ≡ true → length (sheet_of (board_of kinds h)) ≤ LONGEST) c.self.view_is (sheet_few (board_of kinds held) c.self.invariant.0)
+    subst (λ (h : Held g.row.L.Denot). is_some h.marks ≡ true → length (sheet_of (board_of kinds h)) ≤ LONGEST) c.self.view_is (sheet_few (board_of kinds held) (record { kept = c.kept.ensures; valued = c.self.invariant.0.valued; marked = c.self.invariant.0.marked }))
