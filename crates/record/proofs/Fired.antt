@@ -1,5 +1,5 @@
 -- Which lists of signals can be fired.
-use Rattle.std.proofs.Common.{◌≡◌, ℕ, ◌+◌, ◌<◌, Bool, true, false, not, ◌||◌, eqb, List, [], ◌∷◌, ◌++◌, length, get_or, take, drop, Some, None, Option, sym, refl, ap, ◌∙◌, subst, ap₂, inl, inr, ⊎_elim, arith}
+use Rattle.std.proofs.Common.{◌≡◌, ℕ, ◌+◌, ◌<◌, Bool, true, false, cond, not, ◌||◌, eqb, List, [], ◌∷◌, ◌++◌, length, get_or, take, drop, Some, None, Option, sym, refl, ap, ◌∙◌, subst, ap₂, inl, inr, ⊎_elim, arith}
 use mathlib.Core.Bool.{beq, false≢true}
 use Rattle.std.specs.List.{AllByRecursion, list_any}
 use Rattle.std.proofs.ByRecursion.{All-weaker}
@@ -225,6 +225,10 @@ eq_same (signal.Gate i) (signal.Wire j) = refl
 eq_same (signal.Wire i) (signal.Input j) = refl
 eq_same (signal.Wire i) (signal.Gate j) = refl
 eq_same (signal.Wire i) (signal.Wire j) = refl
+
+pub equal_tells : (x y : Signal) (t : Bool) → (t ≡ ghosts.eq x y) → cond t (x ≡ y) (x ≡ y → ⊥)
+equal_tells x y true e = same_is x y (sym (e ∙ eq_same x y))
+equal_tells x y false e = λ q. false≢true (e ∙ eq_same x y ∙ ap (same_signal x) (sym q) ∙ same_itself x)
 
 pub listed_any : (xs : List Signal) (x : Signal) → listed xs x ≡ list_any (λ y. ghosts.eq y x) xs
 listed_any [] x = refl

@@ -1,5 +1,6 @@
 //! What a record holds and keeps.
-ghost use Rattle.record.specs.Boards.{Sound};
+ghost use Rattle.circuit.specs.Wiring.{Kept};
+ghost use Rattle.record.specs.Boards.{Filled, Sound};
 ghost use Rattle.record.specs.Views.{board_of};
 
 use crate::marks::Marking;
@@ -34,11 +35,21 @@ impl<L> Model for Record<L> {
     ghost invariant = { λ r. Filled r.tables (vec_items r.values) r.marking × (512 ≤ vec_capacity r.values) };
 }
 
+impl<L> Record<L> {
+    /// Theorem: what every record keeps, whatever stands for its library.
+    pub fn filled(&self)
+        ensures kept { Kept self.now.circuit }
+        ensures filled { Filled self.now.circuit self.now.state self.now.marks }
+    {
+        self.tables.kept();
+    }
+}
+
 impl<L: GateLibrary> Record<L> {
     /// Theorem: what holds of every record's board.
     pub fn sound(&self)
         ensures { Sound (board_of L.GateLibrary.kinds self.now) }
     {
-        self.tables.kept();
+        self.filled();
     }
 }

@@ -36,7 +36,7 @@ impl<'a, L: GateLibrary, V: Level<L>> Moment<'a, L, V> {
         ensures { result ≡ excitation V.Level.bit V.Level.give (L.GateLibrary.kinds self.now.library.now) self.now.tables.now self.now.state.now (Signal.Input number) }
     {
         let tables = self.tables;
-        V::from(tables.applied[number])
+        V::of_bit(tables.applied[number])
     }
 
     /// A gate's function of its wires, which stand side by side.
@@ -62,7 +62,7 @@ impl<'a, L: GateLibrary, V: Level<L>> Moment<'a, L, V> {
         let tables = self.tables;
         match tables.sources[number] {
             Some(source) => self.state[self.place(source)],
-            None => V::from(false),
+            None => V::of_bit(false),
         }
     }
 
@@ -100,6 +100,6 @@ impl Tables {
             library,
             state,
         };
-        Some(state[place] != now.driven(signal))
+        Some(!state[place].same(now.driven(signal)))
     }
 }
