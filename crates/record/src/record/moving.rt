@@ -7,7 +7,7 @@ ghost use Rattle.races.specs.Races.{Race};
 ghost use Rattle.races.specs.Fires.{fired};
 ghost use Rattle.record.specs.Views.{board_of};
 ghost use Rattle.record.specs.Answers.{told};
-ghost use Rattle.record.specs.Moves.{entry_stop, entry_stops, fire_stop, signals_fired, FireRaces, adopt_stop, adopted, settled_value};
+ghost use Rattle.record.specs.Moves.{entry_stop, entry_stops, listed, fire_stop, signals_fired, FireRaces, adopt_stop, adopted, settled_value};
 
 use super::Record;
 use crate::Refusal;
@@ -44,12 +44,11 @@ impl<L: GateLibrary> Record<L> {
     }
 
     // Refuses a signal that cannot be fired with the earlier ones.
-    #[tactic(auto, using(crate::proofs::Fired::listed_any))]
     fn check_entry(&self, earlier: &[Signal], signal: Signal) -> Result<(), Refusal>
         ensures { let b = board_of L.GateLibrary.kinds self.now in told result ≡ told_by (entry_stop b earlier.now signal) tt }
     {
         self.place(signal)?;
-        if earlier.contains(&signal) {
+        if stands_in(earlier, signal) {
             return Err(Refusal::Repeated);
         }
         if !self.differs(signal) {
@@ -71,6 +70,13 @@ impl<L: GateLibrary> Record<L> {
         self.marking.withdraw();
         Ok(())
     }
+}
+
+// By `any`: with `contains`, firing a long list takes a fifth more time.
+fn stands_in(signals: &[Signal], signal: Signal) -> bool
+    ensures { result ≡ listed signals.now signal }
+{
+    signals.iter().any(|entry| *entry == signal)
 }
 
 fn complement_all(tables: &Tables, values: &mut [bool], signals: &[Signal])
